@@ -1,0 +1,52 @@
+-- `clear_u64` leaves zeros, and the length. Assumes nothing.
+use native.Mathlib.Omega.{arith}
+use Prim.Native.Nat.{_-_}
+use lib.ListN.{length}
+use Rattle.cells.proofs.Parts.{Cleared, clear-start, clear-step, clear-end}
+use Rattle.cells.proofs.clear_u64.Statement.{statement}
+use Rattle.cells.proofs.clear_u64.Tie as tie
+
+abbrev Inv-loop : tie.InvT-loop
+Inv-loop s₀ i₀ s i = Cleared s₀ i s
+
+abbrev μ-loop : tie.MeasureT-loop
+μ-loop s₀ i₀ s i = length s₀ - i
+
+loop-holds : tie.Need-loop-holds Inv-loop μ-loop
+loop-holds c = clear-start (c .args .s .now)
+
+mul-s : tie.Need-mul-s Inv-loop μ-loop
+mul-s c = omega arith
+
+slice-write-s : tie.Need-slice-write-s Inv-loop μ-loop
+slice-write-s c = omega arith
+
+add-i : tie.Need-add-i Inv-loop μ-loop
+add-i c = omega arith
+
+loop-less : tie.Need-loop-less Inv-loop μ-loop
+loop-less c = omega arith
+
+loop-again : tie.Need-loop-again Inv-loop μ-loop
+loop-again c = clear-step (c .before .before .args .s .now) (c .before .loop .i) (c .before .loop .s) (c .before .loop .inv) (c .loop-test .taken)
+
+same-length : tie.Need-same-length Inv-loop μ-loop
+same-length c = omega arith
+
+returns : tie.Need-returns Inv-loop μ-loop
+returns c = clear-end (c .before .before .args .s .now) (c .before .loop .i) (c .before .loop .s) (c .before .loop .inv) (c .loop-test .left)
+
+pub clear-u64-spec : {M : Type 1} → statement M
+clear-u64-spec =
+    tie.close
+    (tie.spec
+    Inv-loop
+    μ-loop
+    loop-holds
+    mul-s
+    slice-write-s
+    add-i
+    loop-less
+    loop-again
+    same-length
+    returns)

@@ -1,0 +1,4 @@
+pub mod Tables
+pub mod Bools
+pub mod Asking
+pub mod Laws

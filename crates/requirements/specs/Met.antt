@@ -1,0 +1,19 @@
+-- When a target meets a requirement: `Requirement::check` of requirements.rs.
+-- Paper: "A requirement asks version first, then architecture."
+use Prim.Native.Nat.{ℕ}
+use lib.Dec.{ltb, leb, eqb}
+use Rattle.names.specs.Names.{choose}
+use Rattle.requirements.specs.declared.Architecture.{Architecture}
+use Rattle.requirements.specs.declared.Architecture.the-variants.{Any, AtLeast, Only}
+use Rattle.requirements.specs.declared.Requirement.{Requirement}
+use Rattle.requirements.specs.declared.Met.{Met}
+use Rattle.requirements.specs.declared.Met.the-variants.{Yes, VersionLow, ArchitectureNot}
+
+-- `check_architecture`
+abbrev pub architectureMet : Architecture → ℕ → Met
+architectureMet Any sm = Yes
+architectureMet (AtLeast least) sm = choose (leb least sm) Yes ArchitectureNot
+architectureMet (Only one) sm = choose (eqb sm one) Yes ArchitectureNot
+
+unfoldable pub metBy : Requirement → ℕ → ℕ → Met
+metBy n version sm = choose (ltb version (n .since)) VersionLow (architectureMet (n .architecture) sm)
