@@ -1,7 +1,7 @@
 -- Two byte lists compared from the front, one byte at a time; and the search for the first name that has the bytes.
 use mathlib.Core.Path.{_≡_, refl, ap, sym, _∙_}
 use mathlib.Core.List.{List, [], _∷_}
-use mathlib.Core.Bool.{Bool, true, false}
+use mathlib.Core.Bool.{Bool, true, false, _&&_}
 use Prim.Native.Nat.{ℕ, zero, suc, _+_, _≤_, _<_}
 use native.Mathlib.Numerals.{add-one}
 use native.Mathlib.Omega.{arith}
@@ -9,9 +9,9 @@ use lib.ListN.{length, drop, getD, List·getD-eq-default}
 use lib.Dec.{eqb}
 use lib.Seq.{drop-cons, drop-length}
 use borrow.Author.Tests.{eq-eqb, ne-eqb}
-use Rattle.names.specs.Names.{equal, both, nameOf, names, numberFrom}
+use Rattle.names.specs.Names.{equal, nameOf, names, numberFrom}
 
-both-false : (t : Bool) {u : Bool} → u ≡ false → both t u ≡ false
+both-false : (t : Bool) {u : Bool} → u ≡ false → (t && u) ≡ false
 both-false true e = e
 both-false false e = refl
 

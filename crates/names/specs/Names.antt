@@ -4,23 +4,16 @@ use Prim.Native.Nat.{ℕ, suc}
 use Prim.Native.Char.{code}
 use Prim.Native.String.{String, [] as []ˢ, _∷_ as _∷ˢ_}
 use mathlib.Core.List.{List, [], _∷_}
-use mathlib.Core.Bool.{Bool, true, false}
+use mathlib.Core.Bool.{Bool, true, false, _&&_, cond}
 use lib.Dec.{eqb}
 use lib.ListN.{getD}
-
-abbrev pub choose {ℓ} : {A : Type ℓ} → Bool → A → A → A
-choose true a b = a
-choose false a b = b
-
-abbrev pub both : Bool → Bool → Bool
-both a b = choose a b false
 
 -- two lists of bytes are equal
 abbrev pub equal : List ℕ → List ℕ → Bool
 equal [] [] = true
 equal [] (y ∷ ys) = false
 equal (x ∷ xs) [] = false
-equal (x ∷ xs) (y ∷ ys) = both (eqb x y) (equal xs ys)
+equal (x ∷ xs) (y ∷ ys) = eqb x y && equal xs ys
 
 -- the bytes of a text of ASCII characters
 abbrev pub bytes : String → List ℕ
@@ -52,7 +45,7 @@ nameOf number = getD ([] ∷ names) number []
 -- the number of the first of the names that has these bytes, the names counted from `from`; 0 where there is none
 abbrev pub numberFrom : ℕ → List (List ℕ) → List ℕ → ℕ
 numberFrom from [] name = 0
-numberFrom from (n ∷ ns) name = choose (equal name n) from (numberFrom (suc from) ns name)
+numberFrom from (n ∷ ns) name = cond (equal name n) from (numberFrom (suc from) ns name)
 
 -- a name's number, counted from 1
 unfoldable pub numberOf : List ℕ → ℕ

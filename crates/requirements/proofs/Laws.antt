@@ -1,13 +1,12 @@
 -- A requirement met at a version is met at each later one; and every feature that the tables name is one of the rows.
 use mathlib.Core.Path.{_≡_, refl}
 use mathlib.Core.List.{List, [], _∷_, map}
-use mathlib.Core.Bool.{Bool, true, false}
+use mathlib.Core.Bool.{Bool, true, false, _&&_, cond}
 use Prim.Native.Nat.{ℕ, zero, suc, _≤_, _<_}
 use native.Mathlib.Omega.{arith}
 use lib.ListN.{length, getD}
 use lib.Dec.{ltb, eqb}
 use borrow.Author.Tests.{le-ltb, ltb-true, ltb-false}
-use Rattle.names.specs.Names.{choose, both}
 use Rattle.requirements.specs.Feature.{features}
 use Rattle.requirements.specs.Met.{metBy, architectureMet}
 use Rattle.requirements.specs.Opcode.{opcodes, opcodeFeature}
@@ -21,7 +20,7 @@ use Rattle.requirements.specs.declared.Asked.{Asked}
 use Rattle.requirements.specs.declared.Asked.the-variants.{Feature, Nothing}
 
 -- where the answer is yes, the version was not too low and the architecture was met
-said-yes : (t : Bool) (m : Met) → choose t VersionLow m ≡ Yes → (t ≡ false) × (m ≡ Yes)
+said-yes : (t : Bool) (m : Met) → cond t VersionLow m ≡ Yes → (t ≡ false) × (m ≡ Yes)
 said-yes true m e = let z : _≡_ {A = ℕ} 0 1 = cc in absurd (omega arith)
 said-yes false m e = (refl, e)
 
@@ -35,14 +34,14 @@ met-later n version later sm h e =
 -- one test over a whole table, and what it says at each position
 abbrev pub allBelow : ℕ → List ℕ → Bool
 allBelow bound [] = true
-allBelow bound (x ∷ xs) = both (ltb x bound) (allBelow bound xs)
+allBelow bound (x ∷ xs) = ltb x bound && allBelow bound xs
 
-both-true : (t u : Bool) → both t u ≡ true → (t ≡ true) × (u ≡ true)
+both-true : (t u : Bool) → (t && u) ≡ true → (t ≡ true) × (u ≡ true)
 both-true true u e = (refl, e)
 both-true false u e = let z : _≡_ {A = ℕ} 0 1 = cc in absurd (omega arith)
 
 picked : (t : Bool) (x feature bound : ℕ) (rest : Asked) → x < bound → (rest ≡ Feature feature → feature < bound)
-    → choose t (Feature x) rest ≡ Feature feature → feature < bound
+    → cond t (Feature x) rest ≡ Feature feature → feature < bound
 picked true x feature bound rest h r e = let same : x ≡ feature = cc in omega arith
 picked false x feature bound rest h r e = r e
 

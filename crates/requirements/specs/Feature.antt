@@ -3,7 +3,7 @@ use Prim.Native.Nat.{ℕ}
 use mathlib.Core.List.{List, [], _∷_}
 use lib.ListN.{getD}
 use lib.Dec.{eqb}
-use Rattle.names.specs.Names.{choose}
+use mathlib.Core.Bool.{cond}
 use Rattle.requirements.specs.declared.Architecture.{Architecture}
 use Rattle.requirements.specs.declared.Architecture.the-variants.{Any, AtLeast, Only}
 use Rattle.requirements.specs.declared.Requirement.{Requirement}
@@ -31,7 +31,7 @@ smOf (Only sm) = sm
 
 -- and back
 unfoldable pub architectureFrom : ℕ → ℕ → Architecture
-architectureFrom rule sm = choose (eqb rule 0) any (choose (eqb rule 1) (atLeast sm) (only sm))
+architectureFrom rule sm = cond (eqb rule 0) any (cond (eqb rule 1) (atLeast sm) (only sm))
 
 -- a requirement: the first minor version (2 is 13.2), and the architectures
 abbrev pub need : ℕ → Architecture → Requirement

@@ -2,7 +2,7 @@
 use Prim.Native.Nat.{ℕ}
 use mathlib.Core.List.{List, [], _∷_}
 use lib.Dec.{eqb}
-use Rattle.names.specs.Names.{choose}
+use mathlib.Core.Bool.{cond}
 use Rattle.requirements.specs.declared.Asked.{Asked}
 use Rattle.requirements.specs.declared.Asked.the-variants.{Feature, Nothing}
 use Rattle.requirements.specs.Feature.{baseline, hopperTarget, rubinTarget}
@@ -36,7 +36,7 @@ targets =
 -- the feature of the first target with this sm
 abbrev pub findIn : List Target → ℕ → Asked
 findIn [] sm = Nothing
-findIn (t ∷ ts) sm = choose (eqb (smOf t) sm) (Feature (featureOf t)) (findIn ts sm)
+findIn (t ∷ ts) sm = cond (eqb (smOf t) sm) (Feature (featureOf t)) (findIn ts sm)
 
 -- what a target asks for itself: `target_requirement`
 unfoldable pub targetFeature : ℕ → Asked

@@ -430,7 +430,7 @@ fn has_true(wanted: u64, name: u64, form: u64, numbers: &[u64]) -> bool
     any_true(numbers)
 }
 
-// The attribute is a rounding mode of an exponential, and not the approximate one.
+// The attribute is a rounding mode of an exponential, and not the full one.
 fn exp_rounded(opcode: u64, name: u64, form: u64, number: u64) -> bool
     ensures { λ r. ⌜ r ≡ expRounded opcode name form number ⌝ }
 {

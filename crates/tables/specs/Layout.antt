@@ -24,42 +24,63 @@ use Rattle.tables.specs.declared.Claim.the-variants.{Result, Nothing}
 abbrev pub countedCell : ℕ → ℕ → List ℕ → ℕ → ℕ → ℕ
 countedCell n w xs i j = cond (ltb i n) (cell w xs i j) 0
 
--- a list of an entry that counts, the empty list of any other
-abbrev pub countedList : ℕ → ℕ → List ℕ → List ℕ → ℕ → ℕ → List ℕ
-countedList n w xs l i j = cond (ltb i n) (entriesOf l (spanAt w xs i j)) []
+-- the span of a list of an entry that counts, an empty one of any other
+abbrev pub countedSpan : ℕ → ℕ → List ℕ → ℕ → ℕ → Span
+countedSpan n w xs i j = cond (ltb i n) (spanAt w xs i j) (record { start = 0; len = 0 })
 
 -- ---- of an operation
 
 unfoldable pub opcodeIn : List ℕ → Counts → ℕ → ℕ
 opcodeIn o n i = countedCell (n .operations) 16 o i 0
 
+unfoldable pub resultTypesSpanIn : List ℕ → Counts → ℕ → Span
+resultTypesSpanIn o n i = countedSpan (n .operations) 16 o i 1
+
 unfoldable pub resultTypesIn : List ℕ → List ℕ → Counts → ℕ → List ℕ
-resultTypesIn o l n i = countedList (n .operations) 16 o l i 1
+resultTypesIn o l n i = entriesOf l (resultTypesSpanIn o n i)
+
+unfoldable pub operandsSpanIn : List ℕ → Counts → ℕ → Span
+operandsSpanIn o n i = countedSpan (n .operations) 16 o i 3
 
 unfoldable pub operandsIn : List ℕ → List ℕ → Counts → ℕ → List ℕ
-operandsIn o l n i = countedList (n .operations) 16 o l i 3
+operandsIn o l n i = entriesOf l (operandsSpanIn o n i)
+
+unfoldable pub regionsSpanIn : List ℕ → Counts → ℕ → Span
+regionsSpanIn o n i = countedSpan (n .operations) 16 o i 5
 
 unfoldable pub regionsIn : List ℕ → List ℕ → Counts → ℕ → List ℕ
-regionsIn o l n i = countedList (n .operations) 16 o l i 5
+regionsIn o l n i = entriesOf l (regionsSpanIn o n i)
 
--- its attributes stand next to each other in A: the first and how many, as far as the attributes go
+-- its attributes stand next to each other in A: the first and how many; the same, as far as the attributes go
+unfoldable pub attributesSpanIn : List ℕ → Counts → ℕ → Span
+attributesSpanIn o n i = countedSpan (n .operations) 16 o i 7
+
 unfoldable pub attributesIn : List ℕ → Counts → ℕ → Span
 attributesIn o n i =
-    let first = countedCell (n .operations) 16 o i 7 in
-    record { start = first; len = min (countedCell (n .operations) 16 o i 8) (n .attributes - first) }
+    let s = attributesSpanIn o n i in
+    record { start = s .start; len = min (s .len) (n .attributes - s .start) }
 
 -- ---- of a block
 
+unfoldable pub argumentsSpanIn : List ℕ → Counts → ℕ → Span
+argumentsSpanIn b n j = countedSpan (n .blocks) 4 b j 0
+
 unfoldable pub argumentsIn : List ℕ → List ℕ → Counts → ℕ → List ℕ
-argumentsIn b l n j = countedList (n .blocks) 4 b l j 0
+argumentsIn b l n j = entriesOf l (argumentsSpanIn b n j)
+
+unfoldable pub operationsSpanIn : List ℕ → Counts → ℕ → Span
+operationsSpanIn b n j = countedSpan (n .blocks) 4 b j 2
 
 unfoldable pub operationsIn : List ℕ → List ℕ → Counts → ℕ → List ℕ
-operationsIn b l n j = countedList (n .blocks) 4 b l j 2
+operationsIn b l n j = entriesOf l (operationsSpanIn b n j)
 
 -- ---- of a region
 
+unfoldable pub blocksSpanIn : List ℕ → Counts → ℕ → Span
+blocksSpanIn r n k = countedSpan (n .regions) 2 r k 0
+
 unfoldable pub blocksIn : List ℕ → List ℕ → Counts → ℕ → List ℕ
-blocksIn r l n k = countedList (n .regions) 2 r l k 0
+blocksIn r l n k = entriesOf l (blocksSpanIn r n k)
 
 -- ---- the functions' operations
 
@@ -71,9 +92,12 @@ functionsIn f n = take (n .functions) f
 unfoldable pub valueTypeIn : List ℕ → Counts → ℕ → ℕ
 valueTypeIn v n i = countedCell (n .values) 4 v i 0
 
+unfoldable pub claimFlagIn : List ℕ → Counts → ℕ → ℕ
+claimFlagIn v n i = countedCell (n .values) 4 v i 1
+
 unfoldable pub claimIn : List ℕ → Counts → ℕ → Claim
 claimIn v n i =
-    cond (eqb (countedCell (n .values) 4 v i 1) 1)
+    cond (eqb (claimFlagIn v n i) 1)
     (Result (countedCell (n .values) 4 v i 2) (countedCell (n .values) 4 v i 3))
     Nothing
 
@@ -110,8 +134,11 @@ nameIn a n k = countedCell (n .attributes) 8 a k 0
 unfoldable pub attributeFormIn : List ℕ → Counts → ℕ → ℕ
 attributeFormIn a n k = countedCell (n .attributes) 8 a k 1
 
+unfoldable pub numbersSpanIn : List ℕ → Counts → ℕ → Span
+numbersSpanIn a n k = countedSpan (n .attributes) 8 a k 2
+
 unfoldable pub numbersIn : List ℕ → List ℕ → Counts → ℕ → List ℕ
-numbersIn a l n k = countedList (n .attributes) 8 a l k 2
+numbersIn a l n k = entriesOf l (numbersSpanIn a n k)
 
 unfoldable pub absentIn : List ℕ → Counts → ℕ → ℕ
 absentIn a n k = countedCell (n .attributes) 8 a k 4

@@ -15,8 +15,11 @@ use Rattle.tables.specs.declared.Fixed.{Fixed}
 use Rattle.tables.specs.declared.Fixed.the-variants.{Count, Free}
 
 -- "fixed result count per opcode or none"
+unfoldable pub fixedFlagIn : List ℕ → ℕ → ℕ
+fixedFlagIn s op = countedCell opcodes 2 s op 0
+
 unfoldable pub fixedCountIn : List ℕ → ℕ → Fixed
-fixedCountIn s op = cond (eqb (countedCell opcodes 2 s op 0) 1) (Count (countedCell opcodes 2 s op 1)) Free
+fixedCountIn s op = cond (eqb (fixedFlagIn s op) 1) (Count (countedCell opcodes 2 s op 1)) Free
 
 -- "per atomic mode 0 to 15 a mask of 16 element kinds"; "A mode absent or outside 0 to 15 is invalid": its mask is 0
 unfoldable pub modeMaskIn : List ℕ → ℕ → ℕ
@@ -31,5 +34,8 @@ unfoldable pub byteWidthIn : List ℕ → ℕ → ℕ
 byteWidthIn s kind = countedCell kinds 1 s kind 288
 
 -- "whether a tile is seen through a pointer attribute"
+unfoldable pub tileFlagIn : List ℕ → ℕ
+tileFlagIn s = getD s 304 0
+
 unfoldable pub tileThroughIn : List ℕ → Bool
-tileThroughIn s = eqb (getD s 304 0) 1
+tileThroughIn s = eqb (tileFlagIn s) 1

@@ -1,5 +1,6 @@
 -- The paper's "Sizes", and the tables' numbers in code 1.
-use Prim.Native.Nat.{ℕ}
+use Prim.Native.Nat.{ℕ, min}
+use Rattle.tables.specs.declared.Counts.{Counts}
 
 -- "Values 4,096; operations 2,048; blocks and regions 512 each; types 1,024; functions 64; attributes 4,096; list entries 8,192 in all;
 -- rank 8; block depth 32; text 65,536 bytes."
@@ -73,3 +74,15 @@ typeForms = 7
 
 abbrev pub modes : ℕ
 modes = 16
+
+-- counts that no size is passed by: what the checks after code 1 look at, and all there is where code 1 passes
+abbrev pub cutCounts : Counts → Counts
+cutCounts n = record {
+  types = min (n .types) maxTypes;
+  values = min (n .values) maxValues;
+  operations = min (n .operations) maxOperations;
+  attributes = min (n .attributes) maxAttributes;
+  blocks = min (n .blocks) maxBlocks;
+  regions = min (n .regions) maxRegions;
+  functions = min (n .functions) maxFunctions;
+}

@@ -1,11 +1,13 @@
 -- The tables as one record, and everything the paper speaks of, read off it. Definitions above this crate use these names alone.
 use Prim.Native.Nat.{ℕ}
-use mathlib.Core.List.{List}
+use mathlib.Core.List.{List, []}
 use mathlib.Core.Bool.{Bool}
 use lib.ListN.{length}
 use lib.Dec.{ltb}
 use Rattle.cells.specs.Lists.{from}
-use Rattle.tables.specs.Layout.{opcodeIn, resultTypesIn, operandsIn, regionsIn, attributesIn, argumentsIn, operationsIn, blocksIn, functionsIn, valueTypeIn, claimIn, formIn, kindIn, pointerIn, paddedIn, sparseIn, rankIn, dimsIn, nameIn, attributeFormIn, numbersIn, absentIn}
+use Rattle.tables.specs.Layout.{opcodeIn, resultTypesSpanIn, resultTypesIn, operandsSpanIn, operandsIn, regionsSpanIn, regionsIn, attributesSpanIn, attributesIn, argumentsSpanIn, argumentsIn, operationsSpanIn, operationsIn, blocksSpanIn, blocksIn, functionsIn, valueTypeIn, claimFlagIn, claimIn, formIn, kindIn, pointerIn, paddedIn, sparseIn, rankIn, dimsIn, nameIn, attributeFormIn, numbersSpanIn, numbersIn, absentIn}
+use Rattle.cells.specs.declared.Span.{Span}
+use Rattle.tables.specs.Sizes.{cutCounts}
 use Rattle.tables.specs.declared.Counts.{Counts}
 use Rattle.tables.specs.declared.Claim.{Claim}
 
@@ -24,6 +26,14 @@ pub record Tables : Type 0 where
 -- the tables that a call was lent
 abbrev pub lent : List ℕ → List ℕ → List ℕ → List ℕ → List ℕ → List ℕ → List ℕ → List ℕ → Counts → Tables
 lent t v o a b r f l n = record { t = t; v = v; o = o; a = a; b = b; r = r; f = f; l = l; counts = n }
+
+-- the nesting alone: no types, values and attributes
+abbrev pub nest : List ℕ → List ℕ → List ℕ → List ℕ → List ℕ → Counts → Tables
+nest o b r f l n = lent [] [] o [] b r f l n
+
+-- the same tables with their counts cut at the sizes
+abbrev pub cut : Tables → Tables
+cut x = lent (x .t) (x .v) (x .o) (x .a) (x .b) (x .r) (x .f) (x .l) (cutCounts (x .counts))
 
 -- ---- nesting: "the lists of functions, regions, blocks and operations"
 
@@ -105,3 +115,33 @@ attributeNumbers x k = numbersIn (x .a) (x .l) (x .counts) k
 
 abbrev pub attributeAbsent : Tables → ℕ → ℕ
 attributeAbsent x k = absentIn (x .a) (x .counts) k
+
+-- ---- where the lists stand, which only code 1 and reading back ask
+
+abbrev pub resultTypesSpan : Tables → ℕ → Span
+resultTypesSpan x i = resultTypesSpanIn (x .o) (x .counts) i
+
+abbrev pub operandsSpan : Tables → ℕ → Span
+operandsSpan x i = operandsSpanIn (x .o) (x .counts) i
+
+abbrev pub regionsSpan : Tables → ℕ → Span
+regionsSpan x i = regionsSpanIn (x .o) (x .counts) i
+
+abbrev pub attributesSpan : Tables → ℕ → Span
+attributesSpan x i = attributesSpanIn (x .o) (x .counts) i
+
+abbrev pub numbersSpan : Tables → ℕ → Span
+numbersSpan x k = numbersSpanIn (x .a) (x .counts) k
+
+abbrev pub argumentsSpan : Tables → ℕ → Span
+argumentsSpan x j = argumentsSpanIn (x .b) (x .counts) j
+
+abbrev pub operationsSpan : Tables → ℕ → Span
+operationsSpan x j = operationsSpanIn (x .b) (x .counts) j
+
+abbrev pub blocksSpan : Tables → ℕ → Span
+blocksSpan x k = blocksSpanIn (x .r) (x .counts) k
+
+-- whether a value claims a result, as a flag
+abbrev pub claimFlag : Tables → ℕ → ℕ
+claimFlag x v = claimFlagIn (x .v) (x .counts) v

@@ -2,8 +2,9 @@
 ghost use mathlib.Core.Path.{_≡_};
 ghost use mathlib.Core.Bool.{Bool};
 ghost use lib.ListN.{getD, take};
-ghost use Rattle.tables.specs.Layout.{countedCell, countedList, opcodeIn, resultTypesIn, operandsIn, regionsIn, attributesIn, argumentsIn, operationsIn, blocksIn, functionsIn, valueTypeIn, claimIn, formIn, kindIn, pointerIn, paddedIn, sparseIn, rankIn, dimsIn, nameIn, attributeFormIn, numbersIn, absentIn};
-ghost use Rattle.tables.specs.Sheet.{fixedCountIn, modeMaskIn, containedMaskIn, byteWidthIn, tileThroughIn};
+ghost use Rattle.tables.specs.Layout.{countedCell, countedSpan, opcodeIn, resultTypesSpanIn, resultTypesIn, operandsSpanIn, operandsIn, regionsSpanIn, regionsIn, attributesSpanIn, attributesIn, argumentsSpanIn, argumentsIn, operationsSpanIn, operationsIn, blocksSpanIn, blocksIn, functionsIn, valueTypeIn, claimFlagIn, claimIn, formIn, kindIn, pointerIn, paddedIn, sparseIn, rankIn, dimsIn, nameIn, attributeFormIn, numbersSpanIn, numbersIn, absentIn};
+ghost use Rattle.tables.specs.Sheet.{fixedFlagIn, fixedCountIn, modeMaskIn, containedMaskIn, byteWidthIn, tileFlagIn, tileThroughIn};
+ghost use Rattle.tables.specs.Sizes.{cutCounts};
 ghost use Rattle.tables.specs.Answer.{numbersOf};
 use cells::Span;
 
@@ -240,22 +241,14 @@ fn counted_u64(s: &[u64], count: u64, width: u64, row: u64, column: u64) -> u64
     }
 }
 
-// A list of an entry that counts, the empty list of any other.
-fn counted_list<'a>(
-    s: &[u32],
-    l: &'a [u64],
-    count: u64,
-    width: u64,
-    row: u64,
-    column: u64,
-) -> &'a [u64]
-    ensures { λ r. ⌜ now r ≡ countedList count width (now (s .entry)) (now (l .entry)) row column ⌝ }
+// The span of a list of an entry that counts, an empty one of any other.
+fn counted_span(s: &[u32], count: u64, width: u64, row: u64, column: u64) -> Span
+    ensures { λ r. ⌜ r ≡ countedSpan count width (now (s .entry)) row column ⌝ }
 {
     if row < count {
-        let span = cells::span_at(s, width, row, column);
-        return cells::entries(l, span);
+        return cells::span_at(s, width, row, column);
     }
-    cells::entries(l, Span { start: 0, len: 0 })
+    Span { start: 0, len: 0 }
 }
 
 // Of an operation.
@@ -265,55 +258,97 @@ pub fn opcode(o: &[u32], n: Counts, operation: u64) -> u64
     counted_u32(o, n.operations, OPERATION_CELLS, operation, 0)
 }
 
-pub fn result_types<'a>(o: &[u32], l: &'a [u64], n: Counts, operation: u64) -> &'a [u64]
-    ensures { λ r. ⌜ now r ≡ resultTypesIn (now (o .entry)) (now (l .entry)) n operation ⌝ }
+pub fn result_types_span(o: &[u32], n: Counts, operation: u64) -> Span
+    ensures { λ r. ⌜ r ≡ resultTypesSpanIn (now (o .entry)) n operation ⌝ }
 {
-    counted_list(o, l, n.operations, OPERATION_CELLS, operation, 1)
+    counted_span(o, n.operations, OPERATION_CELLS, operation, 1)
+}
+
+pub fn result_types<'a>(o: &[u32], l: &'a [u64], n: Counts, operation: u64) -> &'a [u64]
+    ensures { λ x. ⌜ now x ≡ resultTypesIn (now (o .entry)) (now (l .entry)) n operation ⌝ }
+{
+    cells::entries(l, result_types_span(o, n, operation))
+}
+
+pub fn operands_span(o: &[u32], n: Counts, operation: u64) -> Span
+    ensures { λ r. ⌜ r ≡ operandsSpanIn (now (o .entry)) n operation ⌝ }
+{
+    counted_span(o, n.operations, OPERATION_CELLS, operation, 3)
 }
 
 pub fn operands<'a>(o: &[u32], l: &'a [u64], n: Counts, operation: u64) -> &'a [u64]
-    ensures { λ r. ⌜ now r ≡ operandsIn (now (o .entry)) (now (l .entry)) n operation ⌝ }
+    ensures { λ x. ⌜ now x ≡ operandsIn (now (o .entry)) (now (l .entry)) n operation ⌝ }
 {
-    counted_list(o, l, n.operations, OPERATION_CELLS, operation, 3)
+    cells::entries(l, operands_span(o, n, operation))
+}
+
+pub fn regions_span(o: &[u32], n: Counts, operation: u64) -> Span
+    ensures { λ r. ⌜ r ≡ regionsSpanIn (now (o .entry)) n operation ⌝ }
+{
+    counted_span(o, n.operations, OPERATION_CELLS, operation, 5)
 }
 
 pub fn regions<'a>(o: &[u32], l: &'a [u64], n: Counts, operation: u64) -> &'a [u64]
-    ensures { λ r. ⌜ now r ≡ regionsIn (now (o .entry)) (now (l .entry)) n operation ⌝ }
+    ensures { λ x. ⌜ now x ≡ regionsIn (now (o .entry)) (now (l .entry)) n operation ⌝ }
 {
-    counted_list(o, l, n.operations, OPERATION_CELLS, operation, 5)
+    cells::entries(l, regions_span(o, n, operation))
 }
 
-// Its attributes stand next to each other: the first, and how many, as far as the attributes go.
+// Its attributes stand next to each other: the first, and how many.
+pub fn attributes_span(o: &[u32], n: Counts, operation: u64) -> Span
+    ensures { λ r. ⌜ r ≡ attributesSpanIn (now (o .entry)) n operation ⌝ }
+{
+    counted_span(o, n.operations, OPERATION_CELLS, operation, 7)
+}
+
+// The same, as far as the attributes go.
 pub fn attributes(o: &[u32], n: Counts, operation: u64) -> Span
     ensures { λ r. ⌜ r ≡ attributesIn (now (o .entry)) n operation ⌝ }
 {
-    let start = counted_u32(o, n.operations, OPERATION_CELLS, operation, 7);
-    let len = counted_u32(o, n.operations, OPERATION_CELLS, operation, 8);
-    let rest = cells::rest(n.attributes, start);
+    let span = attributes_span(o, n, operation);
+    let rest = cells::rest(n.attributes, span.start);
     Span {
-        start,
-        len: cells::least(len, rest),
+        start: span.start,
+        len: cells::least(span.len, rest),
     }
 }
 
 // Of a block.
-pub fn arguments<'a>(b: &[u32], l: &'a [u64], n: Counts, block: u64) -> &'a [u64]
-    ensures { λ r. ⌜ now r ≡ argumentsIn (now (b .entry)) (now (l .entry)) n block ⌝ }
+pub fn arguments_span(b: &[u32], n: Counts, block: u64) -> Span
+    ensures { λ r. ⌜ r ≡ argumentsSpanIn (now (b .entry)) n block ⌝ }
 {
-    counted_list(b, l, n.blocks, BLOCK_CELLS, block, 0)
+    counted_span(b, n.blocks, BLOCK_CELLS, block, 0)
+}
+
+pub fn arguments<'a>(b: &[u32], l: &'a [u64], n: Counts, block: u64) -> &'a [u64]
+    ensures { λ x. ⌜ now x ≡ argumentsIn (now (b .entry)) (now (l .entry)) n block ⌝ }
+{
+    cells::entries(l, arguments_span(b, n, block))
+}
+
+pub fn operations_span(b: &[u32], n: Counts, block: u64) -> Span
+    ensures { λ r. ⌜ r ≡ operationsSpanIn (now (b .entry)) n block ⌝ }
+{
+    counted_span(b, n.blocks, BLOCK_CELLS, block, 2)
 }
 
 pub fn operations<'a>(b: &[u32], l: &'a [u64], n: Counts, block: u64) -> &'a [u64]
-    ensures { λ r. ⌜ now r ≡ operationsIn (now (b .entry)) (now (l .entry)) n block ⌝ }
+    ensures { λ x. ⌜ now x ≡ operationsIn (now (b .entry)) (now (l .entry)) n block ⌝ }
 {
-    counted_list(b, l, n.blocks, BLOCK_CELLS, block, 2)
+    cells::entries(l, operations_span(b, n, block))
 }
 
 // Of a region.
-pub fn blocks<'a>(r: &[u32], l: &'a [u64], n: Counts, region: u64) -> &'a [u64]
-    ensures { λ bs. ⌜ now bs ≡ blocksIn (now (r .entry)) (now (l .entry)) n region ⌝ }
+pub fn blocks_span(r: &[u32], n: Counts, region: u64) -> Span
+    ensures { λ x. ⌜ x ≡ blocksSpanIn (now (r .entry)) n region ⌝ }
 {
-    counted_list(r, l, n.regions, REGION_CELLS, region, 0)
+    counted_span(r, n.regions, REGION_CELLS, region, 0)
+}
+
+pub fn blocks<'a>(r: &[u32], l: &'a [u64], n: Counts, region: u64) -> &'a [u64]
+    ensures { λ x. ⌜ now x ≡ blocksIn (now (r .entry)) (now (l .entry)) n region ⌝ }
+{
+    cells::entries(l, blocks_span(r, n, region))
 }
 
 // The operation of the function at a position.
@@ -330,11 +365,17 @@ pub fn value_type(v: &[u64], n: Counts, value: u64) -> u64
     counted_u64(v, n.values, VALUE_CELLS, value, 0)
 }
 
+// Whether it claims a result: 1 where it does.
+pub fn claim_flag(v: &[u64], n: Counts, value: u64) -> u64
+    ensures { λ r. ⌜ r ≡ claimFlagIn (now (v .entry)) n value ⌝ }
+{
+    counted_u64(v, n.values, VALUE_CELLS, value, 1)
+}
+
 pub fn claim_of(v: &[u64], n: Counts, value: u64) -> Claim
     ensures { λ r. ⌜ r ≡ claimIn (now (v .entry)) n value ⌝ }
 {
-    let claims = counted_u64(v, n.values, VALUE_CELLS, value, 1);
-    if claims != 1 {
+    if claim_flag(v, n, value) != 1 {
         return Claim::Nothing;
     }
     let operation = counted_u64(v, n.values, VALUE_CELLS, value, 2);
@@ -407,10 +448,16 @@ pub fn attribute_form(a: &[u32], n: Counts, attribute: u64) -> u64
     counted_u32(a, n.attributes, ATTRIBUTE_CELLS, attribute, 1)
 }
 
-pub fn attribute_numbers<'a>(a: &[u32], l: &'a [u64], n: Counts, attribute: u64) -> &'a [u64]
-    ensures { λ r. ⌜ now r ≡ numbersIn (now (a .entry)) (now (l .entry)) n attribute ⌝ }
+pub fn attribute_numbers_span(a: &[u32], n: Counts, attribute: u64) -> Span
+    ensures { λ r. ⌜ r ≡ numbersSpanIn (now (a .entry)) n attribute ⌝ }
 {
-    counted_list(a, l, n.attributes, ATTRIBUTE_CELLS, attribute, 2)
+    counted_span(a, n.attributes, ATTRIBUTE_CELLS, attribute, 2)
+}
+
+pub fn attribute_numbers<'a>(a: &[u32], l: &'a [u64], n: Counts, attribute: u64) -> &'a [u64]
+    ensures { λ x. ⌜ now x ≡ numbersIn (now (a .entry)) (now (l .entry)) n attribute ⌝ }
+{
+    cells::entries(l, attribute_numbers_span(a, n, attribute))
 }
 
 // Which of its numbers are absent: bit k for number k.
@@ -421,11 +468,17 @@ pub fn attribute_absent(a: &[u32], n: Counts, attribute: u64) -> u64
 }
 
 // Of the sheet.
+// Whether the sheet fixes an opcode's count: 1 where it does.
+pub fn fixed_flag(sheet: &[u64], opcode: u64) -> u64
+    ensures { λ r. ⌜ r ≡ fixedFlagIn (now (sheet .entry)) opcode ⌝ }
+{
+    counted_u64(sheet, 105, 2, opcode, 0)
+}
+
 pub fn fixed_count(sheet: &[u64], opcode: u64) -> Fixed
     ensures { λ r. ⌜ r ≡ fixedCountIn (now (sheet .entry)) opcode ⌝ }
 {
-    let fixes = counted_u64(sheet, 105, 2, opcode, 0);
-    if fixes != 1 {
+    if fixed_flag(sheet, opcode) != 1 {
         return Fixed::Free;
     }
     let count = counted_u64(sheet, 105, 2, opcode, 1);
@@ -450,8 +503,30 @@ pub fn byte_width(sheet: &[u64], kind: u64) -> u64
     counted_u64(sheet, 16, 1, kind, 288)
 }
 
+// 1 where a tile is seen through a pointer attribute.
+pub fn tile_flag(sheet: &[u64]) -> u64
+    ensures { λ r. ⌜ r ≡ tileFlagIn (now (sheet .entry)) ⌝ }
+{
+    cells::at_u64(sheet, 304)
+}
+
 pub fn tile_through(sheet: &[u64]) -> bool
     ensures { λ r. ⌜ r ≡ tileThroughIn (now (sheet .entry)) ⌝ }
 {
-    cells::at_u64(sheet, 304) == 1
+    tile_flag(sheet) == 1
+}
+
+// Counts that no size is passed by.
+pub fn cut_counts(n: Counts) -> Counts
+    ensures { λ r. ⌜ r ≡ cutCounts n ⌝ }
+{
+    Counts {
+        types: cells::least(n.types, MAX_TYPES),
+        values: cells::least(n.values, MAX_VALUES),
+        operations: cells::least(n.operations, MAX_OPERATIONS),
+        attributes: cells::least(n.attributes, MAX_ATTRIBUTES),
+        blocks: cells::least(n.blocks, MAX_BLOCKS),
+        regions: cells::least(n.regions, MAX_REGIONS),
+        functions: cells::least(n.functions, MAX_FUNCTIONS),
+    }
 }

@@ -4,11 +4,8 @@ use borrow.Author.Needs.{needs}
 use Rattle.tables.proofs.attributes.Statement.{statement}
 use Rattle.tables.proofs.attributes.Tie as tie
 
-counted-u32-requires : tie.Need-counted-u32-requires
-counted-u32-requires c κs = search needs
-
-counted-u32-requires-2 : tie.Need-counted-u32-requires-2
-counted-u32-requires-2 c κs = search needs
+attributes-span-requires : tie.Need-attributes-span-requires
+attributes-span-requires c κs = search needs
 
 rest-requires : tie.Need-rest-requires
 rest-requires c κs = search needs
@@ -18,10 +15,8 @@ least-requires c κs = search needs
 
 returns : tie.Need-returns
 unfolding attributesIn
-returns c =
-    rw (c .least .ensures, c .before .rest .ensures, c .before .before .counted-u322 .ensures, c .before .before .before .counted-u32 .ensures)
+returns c = rw (c .least .ensures, c .before .rest .ensures, c .before .before .attributes-span .ensures)
 
 pub attributes-spec : {M : Type 1} → statement M
 attributes-spec =
-    tie.close
-    (tie.spec counted-u32-requires counted-u32-requires-2 rest-requires least-requires returns)
+    tie.close (tie.spec attributes-span-requires rest-requires least-requires returns)

@@ -7,12 +7,12 @@ use borrow.Author.Needs.{needs}
 use Rattle.tables.proofs.tile_through.Statement.{statement}
 use Rattle.tables.proofs.tile_through.Tie as tie
 
-at-u64-requires : tie.Need-at-u64-requires
-at-u64-requires c κs = search needs
+tile-flag-requires : tie.Need-tile-flag-requires
+tile-flag-requires c κs = search needs
 
 returns : tie.Need-returns
 unfolding tileThroughIn
-returns c = ap (λ (k : ℕ). eqb k 1) (c .at-u64 .ensures)
+returns c = ap (λ (k : ℕ). eqb k 1) (c .tile-flag .ensures)
 
 pub tile-through-spec : {M : Type 1} → statement M
-tile-through-spec = tie.close (tie.spec at-u64-requires returns)
+tile-through-spec = tie.close (tie.spec tile-flag-requires returns)
