@@ -4,3 +4,4 @@ pub mod Sheet
 pub mod Tables
 pub mod Answer
 pub mod Place
+pub mod Value

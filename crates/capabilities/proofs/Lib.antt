@@ -1,0 +1,5 @@
+pub mod Each
+pub mod Row
+pub mod Told
+pub mod Laws
+pub mod Cards

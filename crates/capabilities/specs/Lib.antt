@@ -1,0 +1,2 @@
+pub mod Ask
+pub mod Part

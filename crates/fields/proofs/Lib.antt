@@ -1,0 +1,4 @@
+pub mod Digits
+pub mod Parts
+pub mod Laws
+pub mod Examples

@@ -1,0 +1,5 @@
+pub mod Find
+pub mod Answers
+pub mod Marks
+pub mod Laws
+pub mod Examples

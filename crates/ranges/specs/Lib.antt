@@ -1,0 +1,4 @@
+pub mod Entry
+pub mod Range
+pub mod Part
+pub mod Ranged

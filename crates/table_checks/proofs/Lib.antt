@@ -1,0 +1,4 @@
+pub mod Turn
+pub mod Bare
+pub mod Laws
+pub mod Reach

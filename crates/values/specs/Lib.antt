@@ -1,0 +1,5 @@
+pub mod Twice
+pub mod Results
+pub mod Guarded
+pub mod Claims
+pub mod Single

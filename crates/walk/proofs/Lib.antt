@@ -1,0 +1,5 @@
+pub mod Filling
+pub mod Visits
+pub mod Totals
+pub mod Laws
+pub mod Cards

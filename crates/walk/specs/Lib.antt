@@ -1,0 +1,4 @@
+pub mod Order
+pub mod Depth
+pub mod Written
+pub mod Total
