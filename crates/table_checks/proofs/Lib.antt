@@ -2,3 +2,4 @@ pub mod Turn
 pub mod Bare
 pub mod Laws
 pub mod Reach
+pub mod Cards

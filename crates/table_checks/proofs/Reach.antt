@@ -39,7 +39,7 @@ count-past i n g [] h = refl
 count-past i n g (x ∷ xs) h =
     omega (arith, not-here i x n (eqb x i) refl (h 0 (omega arith)) g, count-past i n g xs (below-tail x xs n h))
 
-flat-past : (i n : ℕ) → n ≤ i → (f : ℕ → List ℕ) → ((k : ℕ) → Below (f k) n) → (ks : List ℕ) → count i (flat f ks) ≡ 0
+pub flat-past : (i n : ℕ) → n ≤ i → (f : ℕ → List ℕ) → ((k : ℕ) → Below (f k) n) → (ks : List ℕ) → count i (flat f ks) ≡ 0
 flat-past i n g f h [] = refl
 flat-past i n g f h (k ∷ ks) = omega (arith, count-append i (f k) (flat f ks), count-past i n g (f k) (h k), flat-past i n g f h ks)
 
@@ -53,17 +53,17 @@ module _ (x : Tables) (e : tableChecks x ≡ Accepted) where
         flat-past i (x .counts .operations) g (operations x) (passes-1 x e .operations-below) (below (x .counts .blocks)),
       )
 
-  operations-once : (i : ℕ) → count i (listedOperations x) ≤ 1
+  pub operations-once : (i : ℕ) → count i (listedOperations x) ≤ 1
   operations-once i =
       ⊎-elim (λ h. passes-2 x e .operations i h) (λ g. omega (arith, operations-none i g)) (lt-or-ge i (x .counts .operations))
 
-  blocks-once : (j : ℕ) → count j (listedBlocks x) ≤ 1
+  pub blocks-once : (j : ℕ) → count j (listedBlocks x) ≤ 1
   blocks-once j =
       ⊎-elim (λ h. passes-2 x e .blocks j h)
       (λ g. omega (arith, flat-past j (x .counts .blocks) g (blocks x) (passes-1 x e .blocks-below) (below (x .counts .regions))))
       (lt-or-ge j (x .counts .blocks))
 
-  regions-once : (k : ℕ) → count k (listedRegions x) ≤ 1
+  pub regions-once : (k : ℕ) → count k (listedRegions x) ≤ 1
   regions-once k =
       ⊎-elim (λ h. passes-2 x e .regions k h)
       (λ g. omega (arith, flat-past k (x .counts .regions) g (regions x) (passes-1 x e .regions-below) (below (x .counts .operations))))

@@ -1,0 +1,13 @@
+pub mod In
+pub mod Shape
+pub mod Live
+pub mod Dominance
+pub mod Sentence
+pub mod Numbering
+pub mod Means
+pub mod ReadBack
+pub mod Passed
+pub mod Alike
+pub mod Ask
+pub mod Direct
+pub mod Fits

@@ -1,0 +1,1 @@
+// No code: what the paper demands of accepted tables, from the checks' answers alone.
