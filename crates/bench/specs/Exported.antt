@@ -4,6 +4,7 @@ use mathlib.Core.List.{List}
 use lib.ListN.{getD, set}
 use Rattle.tables.specs.Answer.{numbersOf}
 use Rattle.tables.specs.declared.Counts.{Counts}
+use Rattle.tables.specs.declared.Target.{Target}
 use Rattle.tables.specs.declared.Numbers.{Numbers}
 use Rattle.tables.specs.declared.Answer.{Answer}
 use Rattle.tables.specs.declared.Answer.the-variants.{Accepted, Refused}
@@ -19,6 +20,9 @@ countsOf n = record {
   regions = getD n 5 0;
   functions = getD n 6 0;
 }
+
+abbrev pub targetOf : ℕ → ℕ → Target
+targetOf version sm = record { version = version; sm = sm }
 
 abbrev pub none : Numbers
 none = record { code = 0; id = 0; detail = 0 }

@@ -2,11 +2,13 @@
 ghost use mathlib.Core.Path.{_≡_};
 ghost use Rattle.tables.specs.Tables.{lent};
 ghost use Rattle.table_checks.specs.Checks.{tableChecks};
-ghost use Rattle.bench.specs.Exported.{countsOf, told, noted};
+ghost use Rattle.capability_check.specs.Alone.{capabilitiesAlone};
+ghost use Rattle.bench.specs.Exported.{countsOf, targetOf, told, noted};
 use table_checks::Checked;
 use tables::Answer;
 use tables::Counts;
 use tables::Numbers;
+use tables::Target;
 
 // The seven counts, in the tables' order.
 fn counts_of(n: &[u64]) -> Counts
@@ -30,6 +32,20 @@ fn note(n: Numbers, out: &mut [u64])
     cells::put_u64(out, 0, n.code);
     cells::put_u64(out, 1, n.id);
     cells::put_u64(out, 2, n.detail);
+}
+
+// An answer's numbers, 0 0 0 where nothing is refused.
+fn answer_numbers(answer: Answer) -> Numbers
+    ensures { λ r. ⌜ r ≡ told answer ⌝ }
+{
+    match answer {
+        Answer::Accepted => Numbers {
+            code: 0,
+            id: 0,
+            detail: 0,
+        },
+        Answer::Refused(why) => tables::numbers_of(why),
+    }
 }
 
 // Codes 1 to 4 over tables; the answer's code, id and detail, 0 0 0 where nothing is refused.
@@ -65,4 +81,27 @@ pub extern "C" fn lavrindes_check_tables(
             note(tables::numbers_of(why), answer);
         }
     }
+}
+
+// Codes 16, 1 to 4, 9 and 10 over tables and a target: the minor version and the sm number.
+#[no_mangle]
+pub extern "C" fn lavrindes_check_requirements(
+    version: u64,
+    sm: u64,
+    t: &[u64],
+    v: &[u64],
+    o: &[u32],
+    a: &[u32],
+    b: &[u32],
+    r: &[u32],
+    f: &[u32],
+    l: &[u64],
+    counts: &[u64],
+    answer: &mut [u64],
+)
+    ensures { λ _. ⌜ now (answer .exit) ≡ noted (told (capabilitiesAlone (targetOf version sm) (lent (now (t .entry)) (now (v .entry)) (now (o .entry)) (now (a .entry)) (now (b .entry)) (now (r .entry)) (now (f .entry)) (now (l .entry)) (countsOf (now (counts .entry)))))) (now (answer .entry)) ⌝ }
+{
+    let n = counts_of(counts);
+    let said = capability_check::check_alone(Target { version, sm }, t, v, o, a, b, r, f, l, n);
+    note(answer_numbers(said), answer);
 }

@@ -3,3 +3,4 @@ pub mod Bare
 pub mod Laws
 pub mod Reach
 pub mod Cards
+pub mod Handed

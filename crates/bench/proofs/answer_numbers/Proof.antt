@@ -1,0 +1,25 @@
+-- `answer_numbers`: the numbers of a refusal, none where nothing is refused. Assumes nothing.
+use mathlib.Core.Path.{sym, ap}
+use Rattle.bench.specs.Exported.{told}
+use borrow.Author.Needs.{needs}
+use Rattle.bench.proofs.answer_numbers.Statement.{statement}
+use Rattle.bench.proofs.answer_numbers.Tie as tie
+
+enum-told : tie.Need-enum-told
+enum-told c = search needs
+
+enum-known-answer : tie.Need-enum-known-answer
+enum-known-answer c = search needs
+
+numbers-of-requires : tie.Need-numbers-of-requires
+numbers-of-requires c κs = search needs
+
+returns : tie.Need-returns
+returns c = sym (ap told (c .enum-told .given .1))
+
+returns-2 : tie.Need-returns-2
+returns-2 c = search needs
+
+pub answer-numbers-spec : {M : Type 1} → statement M
+answer-numbers-spec =
+    tie.close (tie.spec enum-told enum-known-answer numbers-of-requires returns returns-2)

@@ -1,0 +1,5 @@
+pub mod Kind
+pub mod Tile
+pub mod Shape
+pub mod Rules
+pub mod Mma

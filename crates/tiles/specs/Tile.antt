@@ -1,0 +1,113 @@
+-- A tile, as the rules see a type: its form, its kind, and its shape. "a shape is a rank and eight dims held together".
+use Prim.Native.Nat.{ℕ}
+use mathlib.Core.Bool.{Bool, true, false, not, cond, _&&_, _||_}
+use mathlib.Core.List.{List, _++_, map}
+use mathlib.Core.Option.{Option, some, none}
+use lib.Dec.{eqb, leb}
+use lib.IntN.{ℤ, pos}
+use lib.ListN.{length, getD, take, replicate}
+use Rattle.arith.specs.Signed.{signedOf}
+use Rattle.tables.specs.Layout.{formIn, kindIn, pointerIn, dimsIn}
+use Rattle.tables.specs.Sheet.{tileThroughIn}
+use Rattle.tables.specs.Tables.{Tables}
+use Rattle.tables.specs.declared.Counts.{Counts}
+use Rattle.tiles.specs.Kind.{isInteger}
+use Rattle.tiles.specs.declared.Tile.{Tile}
+
+-- ---- read off the tables
+
+-- no tile: form 0, and all else 0
+unfoldable pub noTile : Tile
+noTile = record { form = 0; kind = 0; rank = 0; dims = replicate 8 (pos 0) }
+
+-- the first eight of the numbers with these bits, with 0 after them up to eight
+unfoldable pub eightOf : List ℕ → List ℤ
+eightOf bits = take 8 (map signedOf bits ++ replicate 8 (pos 0))
+
+-- a type's kind and dims, as a tile of this form
+unfoldable pub rowIn : ℕ → List ℕ → Counts → ℕ → Tile
+rowIn form t n id = record {
+  form = form;
+  kind = kindIn t n id;
+  rank = length (dimsIn t n id);
+  dims = eightOf (dimsIn t n id);
+}
+
+-- The tile that a type is. "Forms of `T`: .. 1 tile, 2 pointer tile"; where the sheet says that no tile is seen through a pointer
+-- attribute, "a type with a pointer attribute is no tile."
+unfoldable pub tileIn : List ℕ → List ℕ → Counts → ℕ → Tile
+tileIn t sheet n id =
+    cond ((eqb (formIn t n id) 1 || eqb (formIn t n id) 2) && (eqb (pointerIn t n id) 0 || tileThroughIn sheet))
+    (rowIn (formIn t n id) t n id)
+    noTile
+
+abbrev pub tileOf : Tables → List ℕ → ℕ → Tile
+tileOf x sheet id = tileIn (x .t) sheet (x .counts) id
+
+-- The tile that a view takes and gives: "4 partition, 5 strided, 6 gather/scatter", through any pointer attribute. "A view's kind is its
+-- tensor's".
+unfoldable pub viewIn : List ℕ → Counts → ℕ → Tile
+viewIn t n id = cond (leb 4 (formIn t n id) && leb (formIn t n id) 6) (rowIn 1 t n id) noTile
+
+abbrev pub viewOf : Tables → ℕ → Tile
+viewOf x id = viewIn (x .t) (x .counts) id
+
+-- ---- its shape
+
+-- the dims that count: the Rust's shape
+unfoldable pub dimsOf : Tile → List ℤ
+dimsOf t = take (t .rank) (t .dims)
+
+-- how many they are: the shape's length
+unfoldable pub rankOf : Tile → ℕ
+rankOf t = length (dimsOf t)
+
+-- dim i, 0 past the rank
+unfoldable pub dimOf : Tile → ℕ → ℤ
+dimOf t i = getD (dimsOf t) i (pos 0)
+
+-- ---- its element
+
+unfoldable pub isTile : Tile → Bool
+isTile t = not (eqb (t .form) 0)
+
+unfoldable pub isNumber : Tile → Bool
+isNumber t = eqb (t .form) 1
+
+unfoldable pub isPointer : Tile → Bool
+isPointer t = eqb (t .form) 2
+
+-- the kind of a tile of numbers, none of any other: the Rust's `scalar`
+unfoldable pub scalarOf : Tile → Option ℕ
+scalarOf t = cond (isNumber t) (some (t .kind)) none
+
+-- equality of kinds that may be absent
+abbrev pub sameOption : Option ℕ → Option ℕ → Bool
+sameOption none none = true
+sameOption none (some y) = false
+sameOption (some x) none = false
+sameOption (some x) (some y) = eqb x y
+
+-- it has a scalar, which is this kind
+unfoldable pub hasKind : Tile → ℕ → Bool
+hasKind t kind = sameOption (scalarOf t) (some kind)
+
+-- the same scalar, or none in both: so the MMA arm compares lhs and rhs
+unfoldable pub sameScalar : Tile → Tile → Bool
+sameScalar a b = sameOption (scalarOf a) (scalarOf b)
+
+-- the same element type: numbers or pointers, and of which kind
+unfoldable pub sameElement : Tile → Tile → Bool
+sameElement a b = eqb (a .form) (b .form) && eqb (a .kind) (b .kind)
+
+-- the pointers of p are to numbers of v's kind, as the atomics ask
+unfoldable pub pointsTo : Tile → Tile → Bool
+pointsTo p v = isPointer p && hasKind v (p .kind)
+
+-- a tile of integers, as bounded and the indices of views ask
+unfoldable pub isIntegers : Tile → Bool
+isIntegers t = isNumber t && isInteger (t .kind)
+
+-- a tile whose scalar is an integer or absent, as div_by and same_elements ask
+unfoldable pub isIntegersOrPointers : Tile → Bool
+isIntegersOrPointers t = isTile t && (not (isNumber t) || isInteger (t .kind))
