@@ -1,0 +1,5 @@
+pub mod Lists
+pub mod Fixed
+pub mod Several
+pub mod Attributes
+pub mod Says

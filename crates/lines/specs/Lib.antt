@@ -1,0 +1,4 @@
+pub mod Field
+pub mod Line
+pub mod Into
+pub mod Answer
