@@ -2,6 +2,7 @@
 ghost use mathlib.Core.Path.{_≡_};
 ghost use Rattle.tables.specs.Tables.{lent};
 ghost use Rattle.table_checks.specs.Checks.{tableChecks};
+ghost use Rattle.dominance.specs.Alone.{dominanceAlone};
 ghost use Rattle.capability_check.specs.Alone.{capabilitiesAlone};
 ghost use Rattle.bench.specs.Exported.{countsOf, targetOf, told, noted};
 use table_checks::Checked;
@@ -81,6 +82,27 @@ pub extern "C" fn lavrindes_check_tables(
             note(tables::numbers_of(why), answer);
         }
     }
+}
+
+// Codes 1 to 4 and 5 over tables.
+#[no_mangle]
+pub extern "C" fn lavrindes_check_dominance(
+    t: &[u64],
+    v: &[u64],
+    o: &[u32],
+    a: &[u32],
+    b: &[u32],
+    r: &[u32],
+    f: &[u32],
+    l: &[u64],
+    counts: &[u64],
+    answer: &mut [u64],
+)
+    ensures { λ _. ⌜ now (answer .exit) ≡ noted (told (dominanceAlone (lent (now (t .entry)) (now (v .entry)) (now (o .entry)) (now (a .entry)) (now (b .entry)) (now (r .entry)) (now (f .entry)) (now (l .entry)) (countsOf (now (counts .entry)))))) (now (answer .entry)) ⌝ }
+{
+    let n = counts_of(counts);
+    let said = dominance::dominance(t, v, o, a, b, r, f, l, n);
+    note(answer_numbers(said), answer);
 }
 
 // Codes 16, 1 to 4, 9 and 10 over tables and a target: the minor version and the sm number.

@@ -1,0 +1,3 @@
+pub mod Operation
+pub mod Walks
+pub mod Passed
