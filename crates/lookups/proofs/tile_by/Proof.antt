@@ -1,5 +1,4 @@
 -- `tile_by` meets its contract: by whether there is a type.
-use mathlib.Core.Path.{sym, ap, _∙_}
 use borrow.Author.Needs.{needs}
 use Rattle.lookups.proofs.tile_by.Statement.{statement}
 use Rattle.lookups.proofs.tile_by.Tie as tie

@@ -1,0 +1,3 @@
+pub mod Either
+pub mod Signs
+pub mod Signature

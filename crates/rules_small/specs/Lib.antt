@@ -1,0 +1,4 @@
+pub mod Rounding
+pub mod Memory
+pub mod Power
+pub mod Token
