@@ -145,10 +145,12 @@ visit-block-returns t c =
     let a = c .before .before .before .before .before .before .before .before .before .before .before .before .before .before .before .before .before .before .before .before .before .before .before .before .before .before .before .before .before .before .args in
     let x : List ℕ → List ℕ → List ℕ → List ℕ → Tables = λ t v e f. lent t v (a .o .now) e (a .b .now) (a .r .now) f (a .l .now) (a .n) in
     let lp = c .before .before .before .before .before .before .before .before .before .before .before .before .loop in
-    let w = c .before .before .before .before .before .before .before .visit-operation in
-    (tt, λ t v e f tells live g.
-    let at = lp .inv .going t v e f tells _ (c .before .before .before .before .before .before .before .before .before .before .before .before .before .before .before .before .before .add-all .ensures .1 live g) in
-    stopped (going-stop at (c .before .before .before .before .before .before .before .before .before .before .before .loop-test .taken) (lp .inv .depth) (w .ensures .1 t v e f tells (at .now-live) (at .stack)) (c .before .why .given .1) ∙ block-is (x t v e f) (a .scope .depth) live (a .id) (c .before .before .before .before .before .before .before .before .before .before .before .before .before .before .before .before .before .add-all .ensures .0) (c .before .before .before .before .before .before .before .before .before .before .before .before .before .before .before .before .before .before .arguments .ensures) (c .before .before .before .before .before .before .before .before .before .before .before .before .before .before .before .before .before .before .before .before .before .operations .ensures)))
+    let w = c .before .before .before .before .before .before .before .visit-operation in (
+      tt,
+      λ t v e f tells live g.
+          let at = lp .inv .going t v e f tells _ (c .before .before .before .before .before .before .before .before .before .before .before .before .before .before .before .before .before .add-all .ensures .1 live g) in
+          stopped (going-stop at (c .before .before .before .before .before .before .before .before .before .before .before .loop-test .taken) (lp .inv .depth) (w .ensures .1 t v e f tells (at .now-live) (at .stack)) (c .before .why .given .1) ∙ block-is (x t v e f) (a .scope .depth) live (a .id) (c .before .before .before .before .before .before .before .before .before .before .before .before .before .before .before .before .before .add-all .ensures .0) (c .before .before .before .before .before .before .before .before .before .before .before .before .before .before .before .before .before .before .arguments .ensures) (c .before .before .before .before .before .before .before .before .before .before .before .before .before .before .before .before .before .before .before .before .before .operations .ensures)),
+    )
 
 visit-block-add-i : (t : ℕ) → visit-block-lts.Need-add-i (visit-block-calls t) (visit-block-at t) visit-block.Post visit-block-Inv-loop visit-block-μ-loop
 visit-block-add-i t c = omega (arith, c .before .before .before .before .before .before .before .before .before .before .before .loop-test .taken, c .before .before .before .before .before .before .before .before .before .before .before .before .before .before .before .before .before .before .before .before .before .operations .ok)
@@ -182,13 +184,15 @@ visit-block-returns-2 : (t : ℕ) → visit-block-lts.Need-returns-2 (visit-bloc
 visit-block-returns-2 t c =
     let a = c .before .before .before .before .before .before .before .before .before .before .before .before .before .before .before .before .before .before .before .before .args in
     let x : List ℕ → List ℕ → List ℕ → List ℕ → Tables = λ t v e f. lent t v (a .o .now) e (a .b .now) (a .r .now) f (a .l .now) (a .n) in
-    let lp = c .before .before .loop in
-    (ap (λ (z : Scope). z .depth) (c .roll-back .ensures), λ t v e f tells live g.
-    let at = lp .inv .going t v e f tells _ (c .before .before .before .before .before .before .before .add-all .ensures .1 live g) in
-    record {
-      answer = going-said at (c .before .loop-test .left) ∙ block-is (x t v e f) (a .scope .depth) live (a .id) (c .before .before .before .before .before .before .before .add-all .ensures .0) (c .before .before .before .before .before .before .before .before .arguments .ensures) (c .before .before .before .before .before .before .before .before .before .before .before .operations .ensures);
-      stands = back-to (c .roll-back .ensures) (going-live at (c .before .loop-test .left)) (begins-on (begins-all (a .n .values) live (c .before .before .before .before .before .before .before .before .arguments .result .now)) (begins-after (x t v e f) (seeAll (a .n .values) live (c .before .before .before .before .before .before .before .before .arguments .result .now)) (c .before .before .before .before .before .before .before .before .before .before .before .operations .result .now))) g;
-    })
+    let lp = c .before .before .loop in (
+      ap (λ (z : Scope). z .depth) (c .roll-back .ensures),
+      λ t v e f tells live g.
+          let at = lp .inv .going t v e f tells _ (c .before .before .before .before .before .before .before .add-all .ensures .1 live g) in
+          record {
+            answer = going-said at (c .before .loop-test .left) ∙ block-is (x t v e f) (a .scope .depth) live (a .id) (c .before .before .before .before .before .before .before .add-all .ensures .0) (c .before .before .before .before .before .before .before .before .arguments .ensures) (c .before .before .before .before .before .before .before .before .before .before .before .operations .ensures);
+            stands = back-to (c .roll-back .ensures) (going-live at (c .before .loop-test .left)) (begins-on (begins-all (a .n .values) live (c .before .before .before .before .before .before .before .before .arguments .result .now)) (begins-after (x t v e f) (seeAll (a .n .values) live (c .before .before .before .before .before .before .before .before .arguments .result .now)) (c .before .before .before .before .before .before .before .before .before .before .before .operations .result .now))) g;
+          },
+    )
 
 abbrev visit-operation-calls : ℕ → visit-operation-lts.Claims
 visit-operation-calls t = (open-operation-reads.Asked, open-operation-reads.Learnt, regions-reads.Asked, regions-reads.Learnt, visit-regions-below t, visit-regions.Post)
@@ -219,14 +223,16 @@ visit-operation-returns t c =
     let a = c .before .before .before .before .before .before .before .before .before .before .before .before .before .before .before .before .before .before .before .before .before .before .before .before .before .before .args in
     let x : List ℕ → List ℕ → List ℕ → List ℕ → Tables = λ t v e f. lent t v (a .o .now) e (a .b .now) (a .r .now) f (a .l .now) (a .n) in
     let w = c .before .before .before .before .visit-regions in
-    let level = level-is (c .before .before .before .before .before .before .before .before .before .before .before .before .before .before .before .open-operation .ensures .0) (c .before .before .before .before .before .before .before .before .before .inner .given .1) in
-    (subst (Level (w .result)) level (w .ensures .0), λ t v e f tells live g.
-    let opened = c .before .before .before .before .before .before .before .before .before .before .before .before .before .before .before .open-operation .ensures .1 t v e (a .b .now) (a .r .now) f tells live g in
-    let went = w .ensures .1 t v e f tells _ (stands-is opened (c .before .before .before .before .before .before .before .before .before .inner .given .1)) in
-    record {
-      answer = went .answer ∙ operation-goes (x t v e f) (a .scope .depth) live (a .id) opened (c .before .before .before .before .before .before .before .before .before .inner .given .1) level (c .before .before .before .before .before .before .before .regions .ensures);
-      stands = went .stands;
-    })
+    let level = level-is (c .before .before .before .before .before .before .before .before .before .before .before .before .before .before .before .open-operation .ensures .0) (c .before .before .before .before .before .before .before .before .before .inner .given .1) in (
+      subst (Level (w .result)) level (w .ensures .0),
+      λ t v e f tells live g.
+          let opened = c .before .before .before .before .before .before .before .before .before .before .before .before .before .before .before .open-operation .ensures .1 t v e (a .b .now) (a .r .now) f tells live g in
+          let went = w .ensures .1 t v e f tells _ (stands-is opened (c .before .before .before .before .before .before .before .before .before .inner .given .1)) in
+          record {
+            answer = went .answer ∙ operation-goes (x t v e f) (a .scope .depth) live (a .id) opened (c .before .before .before .before .before .before .before .before .before .inner .given .1) level (c .before .before .before .before .before .before .before .regions .ensures);
+            stands = went .stands;
+          },
+    )
 
 visit-operation-same-length-3 : (t : ℕ) → visit-operation-lts.Need-same-length-3 (visit-operation-calls t) (visit-operation-at t) visit-operation.Post
 visit-operation-same-length-3 t c = c .before .before .before .before .before .before .before .open-operation .kept .1 .1 .1 .1 .1 .0
@@ -237,10 +243,12 @@ visit-operation-same-length-4 t c = c .before .before .before .before .before .b
 visit-operation-returns-2 : (t : ℕ) → visit-operation-lts.Need-returns-2 (visit-operation-calls t) (visit-operation-at t) visit-operation.Post
 visit-operation-returns-2 t c =
     let a = c .before .before .before .before .before .before .before .before .before .before .before .before .before .before .before .before .before .before .args in
-    let x : List ℕ → List ℕ → List ℕ → List ℕ → Tables = λ t v e f. lent t v (a .o .now) e (a .b .now) (a .r .now) f (a .l .now) (a .n) in
-    (tt, λ t v e f tells live g.
-    let opened = c .before .before .before .before .before .before .before .open-operation .ensures .1 t v e (a .b .now) (a .r .now) f tells live g in
-    stopped (operation-stops (x t v e f) (a .scope .depth) live (a .id) opened (c .before .why .given .1)))
+    let x : List ℕ → List ℕ → List ℕ → List ℕ → Tables = λ t v e f. lent t v (a .o .now) e (a .b .now) (a .r .now) f (a .l .now) (a .n) in (
+      tt,
+      λ t v e f tells live g.
+          let opened = c .before .before .before .before .before .before .before .open-operation .ensures .1 t v e (a .b .now) (a .r .now) f tells live g in
+          stopped (operation-stops (x t v e f) (a .scope .depth) live (a .id) opened (c .before .why .given .1)),
+    )
 
 abbrev visit-region-calls : ℕ → visit-region-lts.Claims
 visit-region-calls t = (blocks-reads.Asked, blocks-reads.Learnt, enter-reads.Asked, enter-reads.Learnt, visit-block-below t, visit-block.Post, roll-back-reads.Asked, roll-back-reads.Learnt)
@@ -292,10 +300,12 @@ visit-region-returns-2 t c =
     let a = c .before .before .before .before .before .before .before .before .before .before .before .before .before .before .before .before .before .before .before .before .before .before .before .before .before .args in
     let x : List ℕ → List ℕ → List ℕ → List ℕ → Tables = λ t v e f. lent t v (a .o .now) e (a .b .now) (a .r .now) f (a .l .now) (a .n) in
     let lp = c .before .before .before .before .before .before .before .before .before .before .before .before .loop in
-    let w = c .before .before .before .before .before .before .before .visit-block in
-    (tt, λ t v e f tells live g.
-    let at = lp .inv .going t v e f tells live (subst (λ (z : Scope). Shows (a .n .values) (a .dense .now) (a .sparse .now) (z .next) live) (sym (c .before .before .before .before .before .before .before .before .before .before .before .before .before .enter .ensures)) g) in
-    stopped (going-stop at (c .before .before .before .before .before .before .before .before .before .before .before .loop-test .taken) (lp .inv .depth) (w .ensures .1 t v e f tells (at .now-live) (at .stack)) (c .before .why .given .1) ∙ region-is (x t v e f) (a .scope .depth) live (a .id) (c .before .before .before .before .before .before .before .before .before .before .before .before .before .before .if1 .left) (ap (λ (z : Scope). z .depth) (c .before .before .before .before .before .before .before .before .before .before .before .before .before .enter .ensures)) (c .before .before .before .before .before .before .before .before .before .before .before .before .before .before .before .before .blocks2 .ensures)))
+    let w = c .before .before .before .before .before .before .before .visit-block in (
+      tt,
+      λ t v e f tells live g.
+          let at = lp .inv .going t v e f tells live (subst (λ (z : Scope). Shows (a .n .values) (a .dense .now) (a .sparse .now) (z .next) live) (sym (c .before .before .before .before .before .before .before .before .before .before .before .before .before .enter .ensures)) g) in
+          stopped (going-stop at (c .before .before .before .before .before .before .before .before .before .before .before .loop-test .taken) (lp .inv .depth) (w .ensures .1 t v e f tells (at .now-live) (at .stack)) (c .before .why .given .1) ∙ region-is (x t v e f) (a .scope .depth) live (a .id) (c .before .before .before .before .before .before .before .before .before .before .before .before .before .before .if1 .left) (ap (λ (z : Scope). z .depth) (c .before .before .before .before .before .before .before .before .before .before .before .before .before .enter .ensures)) (c .before .before .before .before .before .before .before .before .before .before .before .before .before .before .before .before .blocks2 .ensures)),
+    )
 
 visit-region-add-i : (t : ℕ) → visit-region-lts.Need-add-i (visit-region-calls t) (visit-region-at t) visit-region.Post visit-region-Inv-loop visit-region-μ-loop
 visit-region-add-i t c = search needs
@@ -329,14 +339,16 @@ visit-region-returns-3 : (t : ℕ) → visit-region-lts.Need-returns-3 (visit-re
 visit-region-returns-3 t c =
     let a = c .before .before .before .before .before .before .before .before .before .before .before .before .before .before .before .args in
     let x : List ℕ → List ℕ → List ℕ → List ℕ → Tables = λ t v e f. lent t v (a .o .now) e (a .b .now) (a .r .now) f (a .l .now) (a .n) in
-    let lp = c .before .before .loop in
-    (ap (λ (z : Scope). z .depth) (c .roll-back .ensures), λ t v e f tells live g.
-    let at = lp .inv .going t v e f tells live (subst (λ (z : Scope). Shows (a .n .values) (a .dense .now) (a .sparse .now) (z .next) live) (sym (c .before .before .before .enter .ensures)) g) in
-    let shown = subst (Shows (a .n .values) (lp .dense) (lp .sparse) (lp .s .next)) (grown-same (x t v e f) live (c .before .before .before .before .before .before .blocks2 .result .now)) (going-live at (c .before .loop-test .left)) in
-    record {
-      answer = going-said at (c .before .loop-test .left) ∙ region-is (x t v e f) (a .scope .depth) live (a .id) (c .before .before .before .before .if1 .left) (ap (λ (z : Scope). z .depth) (c .before .before .before .enter .ensures)) (c .before .before .before .before .before .before .blocks2 .ensures);
-      stands = back-to (c .roll-back .ensures) shown (begins-same live) g;
-    })
+    let lp = c .before .before .loop in (
+      ap (λ (z : Scope). z .depth) (c .roll-back .ensures),
+      λ t v e f tells live g.
+          let at = lp .inv .going t v e f tells live (subst (λ (z : Scope). Shows (a .n .values) (a .dense .now) (a .sparse .now) (z .next) live) (sym (c .before .before .before .enter .ensures)) g) in
+          let shown = subst (Shows (a .n .values) (lp .dense) (lp .sparse) (lp .s .next)) (grown-same (x t v e f) live (c .before .before .before .before .before .before .blocks2 .result .now)) (going-live at (c .before .loop-test .left)) in
+          record {
+            answer = going-said at (c .before .loop-test .left) ∙ region-is (x t v e f) (a .scope .depth) live (a .id) (c .before .before .before .before .if1 .left) (ap (λ (z : Scope). z .depth) (c .before .before .before .enter .ensures)) (c .before .before .before .before .before .before .blocks2 .ensures);
+            stands = back-to (c .roll-back .ensures) shown (begins-same live) g;
+          },
+    )
 
 abbrev visit-regions-calls : ℕ → visit-regions-lts.Claims
 visit-regions-calls t = (visit-region-below t, visit-region.Post)
@@ -376,10 +388,12 @@ visit-regions-returns t c =
     let a = c .before .before .before .before .before .before .before .before .before .before .before .before .before .before .before .before .before .before .before .before .before .before .args in
     let x : List ℕ → List ℕ → List ℕ → List ℕ → Tables = λ t v e f. lent t v (a .o .now) e (a .b .now) (a .r .now) f (a .l .now) (a .n) in
     let lp = c .before .before .before .before .before .before .before .before .before .before .before .before .loop in
-    let w = c .before .before .before .before .before .before .before .visit-region in
-    (tt, λ t v e f tells live g.
-    let at = lp .inv .going t v e f tells live g in
-    stopped (going-stop at (c .before .before .before .before .before .before .before .before .before .before .before .loop-test .taken) (lp .inv .depth) (w .ensures .1 t v e f tells (at .now-live) (at .stack)) (c .before .why .given .1) ∙ regions-are (x t v e f) (a .scope .depth) live (a .regions .now)))
+    let w = c .before .before .before .before .before .before .before .visit-region in (
+      tt,
+      λ t v e f tells live g.
+          let at = lp .inv .going t v e f tells live g in
+          stopped (going-stop at (c .before .before .before .before .before .before .before .before .before .before .before .loop-test .taken) (lp .inv .depth) (w .ensures .1 t v e f tells (at .now-live) (at .stack)) (c .before .why .given .1) ∙ regions-are (x t v e f) (a .scope .depth) live (a .regions .now)),
+    )
 
 visit-regions-add-i : (t : ℕ) → visit-regions-lts.Need-add-i (visit-regions-calls t) (visit-regions-at t) visit-regions.Post visit-regions-Inv-loop visit-regions-μ-loop
 visit-regions-add-i t c = omega (arith, c .before .before .before .before .before .before .before .before .before .before .before .loop-test .taken, c .before .before .before .before .before .before .before .before .before .before .before .before .before .before .before .before .before .before .before .before .before .before .good)
@@ -410,13 +424,15 @@ visit-regions-returns-2 : (t : ℕ) → visit-regions-lts.Need-returns-2 (visit-
 visit-regions-returns-2 t c =
     let a = c .before .before .before .before .before .before .before .before .before .before .before .args in
     let x : List ℕ → List ℕ → List ℕ → List ℕ → Tables = λ t v e f. lent t v (a .o .now) e (a .b .now) (a .r .now) f (a .l .now) (a .n) in
-    let lp = c .before .loop in
-    (lp .inv .depth, λ t v e f tells live g.
-    let at = lp .inv .going t v e f tells live g in
-    record {
-      answer = going-said at (c .loop-test .left) ∙ regions-are (x t v e f) (a .scope .depth) live (a .regions .now);
-      stands = subst (Shows (a .n .values) (lp .dense) (lp .sparse) (lp .s .next)) (grown-same (x t v e f) live (a .regions .now)) (going-live at (c .loop-test .left));
-    })
+    let lp = c .before .loop in (
+      lp .inv .depth,
+      λ t v e f tells live g.
+          let at = lp .inv .going t v e f tells live g in
+          record {
+            answer = going-said at (c .loop-test .left) ∙ regions-are (x t v e f) (a .scope .depth) live (a .regions .now);
+            stands = subst (Shows (a .n .values) (lp .dense) (lp .sparse) (lp .s .next)) (grown-same (x t v e f) live (a .regions .now)) (going-live at (c .loop-test .left));
+          },
+    )
 
 pub +visit-block+visit-operation+visit-region+visit-regions-spec : {M : Type 1} → statement M
 +visit-block+visit-operation+visit-region+visit-regions-spec =
