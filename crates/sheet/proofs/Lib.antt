@@ -1,0 +1,4 @@
+pub mod Ways
+pub mod Whole
+pub mod Back
+pub mod Cards
