@@ -1,0 +1,4 @@
+pub mod Scan
+pub mod Ranged
+pub mod Turns
+pub mod Laws

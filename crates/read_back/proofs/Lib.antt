@@ -1,0 +1,10 @@
+pub mod Stack
+pub mod Stage
+pub mod Visits
+pub mod Opened
+pub mod Room
+pub mod Whole
+pub mod Turns
+pub mod Same
+pub mod Cards
+pub mod Laws
