@@ -1,0 +1,4 @@
+pub mod Codes
+pub mod Each
+pub mod Laws
+pub mod Cards

@@ -1,0 +1,2 @@
+pub mod Opcode
+pub mod Operation

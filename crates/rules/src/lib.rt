@@ -1,0 +1,162 @@
+// Codes 11 and 12: the operation rules, arm by arm, over operations given in walk order.
+ghost use mathlib.Core.Path.{_≡_};
+ghost use mathlib.Core.List.{[]};
+ghost use Rattle.tables.specs.Tables.{lent};
+ghost use Rattle.rules.specs.Operation.{armOf, armRule, judged, verifyOperation, rules};
+use lookups::Verdict;
+use rules_atomic::ATOMIC_CAS;
+use rules_atomic::ATOMIC_RMW;
+use rules_shape::BITCAST;
+use rules_shape::BROADCAST;
+use rules_shape::PACK;
+use rules_shape::PERMUTE;
+use rules_shape::RESHAPE;
+use rules_shape::UNPACK;
+use tables::Answer;
+use tables::Counts;
+use tables::Refusal;
+
+mod opcodes;
+
+use opcodes::*;
+
+// The arms of the match on the opcode, in its order; the last is that of an opcode with no rule of its own.
+pub enum Arm {
+    Shape,
+    Atomic,
+    Assumed,
+    MakeView,
+    Allocation,
+    Power,
+    Mma,
+    Part,
+    ToInteger,
+    ToFloat,
+    Sum,
+    Exponential,
+    Token,
+    View,
+    Free,
+}
+
+// Which opcodes share an arm. Neighbours stand on lines of their own.
+fn arm_of(opcode: u64) -> Arm
+    ensures { λ r. ⌜ r ≡ armOf opcode ⌝ }
+{
+    match opcode {
+        BITCAST | RESHAPE | BROADCAST | PERMUTE | PACK => Arm::Shape,
+        UNPACK => Arm::Shape,
+        ATOMIC_RMW => Arm::Atomic,
+        ATOMIC_CAS => Arm::Atomic,
+        ASSUME => Arm::Assumed,
+        MAKE_TENSOR_VIEW => Arm::MakeView,
+        MAKE_PARTITION_VIEW | MAKE_GATHER_SCATTER_VIEW => Arm::MakeView,
+        MAKE_STRIDED_VIEW => Arm::MakeView,
+        ALLOCA => Arm::Allocation,
+        F_POW_I => Arm::Power,
+        MMA_F => Arm::Mma,
+        MMA_I | MMA_F_SCALED => Arm::Mma,
+        INSERT | EXTRACT => Arm::Part,
+        F_TO_I => Arm::ToInteger,
+        F_TO_F => Arm::ToFloat,
+        ADD_F | SUB_F | MUL_F | FMA => Arm::Sum,
+        EXP | TAN_H => Arm::Exponential,
+        GDC_LAUNCH_DEPENDENTS_TKO => Arm::Token,
+        GDC_WAIT_TKO | MEMORY_FENCE_ALIAS_TKO => Arm::Token,
+        LOAD_VIEW_TKO | STORE_VIEW_TKO | ATOMIC_RED_VIEW_TKO => Arm::View,
+        _ => Arm::Free,
+    }
+}
+
+// What an arm asks of an operation.
+fn arm_rule(
+    version: u64,
+    t: &[u64],
+    v: &[u64],
+    o: &[u32],
+    a: &[u32],
+    l: &[u64],
+    sheet: &[u64],
+    n: Counts,
+    i: u64,
+    arm: Arm,
+) -> Verdict
+    ensures { λ r. ⌜ r ≡ armRule version (now (sheet .entry)) (lent (now (t .entry)) (now (v .entry)) (now (o .entry)) (now (a .entry)) [] [] [] (now (l .entry)) n) i arm ⌝ }
+{
+    match arm {
+        Arm::Shape => rules_shape::shape_arm(t, v, o, a, l, sheet, n, i),
+        Arm::Atomic => rules_atomic::atomic_arm(t, v, o, a, l, sheet, n, i),
+        Arm::Assumed => rules_assume::assume(t, v, o, a, l, sheet, n, i),
+        Arm::MakeView => rules_small::make_view(t, v, o, l, n, i),
+        Arm::Allocation => rules_small::alloca(t, o, a, l, sheet, n, i),
+        Arm::Power => rules_small::f_pow_i(t, v, o, l, sheet, n, i),
+        Arm::Mma => rules_matrix::mma(t, v, o, l, sheet, n, i),
+        Arm::Part => rules_matrix::insert_extract(t, v, o, l, sheet, n, i),
+        Arm::ToInteger => rules_small::f_to_i(o, a, l, n, i),
+        Arm::ToFloat => rules_small::f_to_f(version, t, v, o, a, l, sheet, n, i),
+        Arm::Sum => rules_small::add_f(o, a, l, n, i),
+        Arm::Exponential => rules_small::exp(t, v, o, a, l, sheet, n, i),
+        Arm::Token => rules_small::tokens(t, v, o, l, n, i),
+        Arm::View => rules_view::view_access(t, v, o, a, l, sheet, n, i),
+        Arm::Free => Verdict::Holds,
+    }
+}
+
+// The answer to what a rule says of an operation.
+fn judged(operation: u64, verdict: Verdict) -> Answer
+    ensures { λ r. ⌜ r ≡ judged operation verdict ⌝ }
+{
+    match verdict {
+        Verdict::Holds => Answer::Accepted,
+        Verdict::Broken(reason) => Answer::Refused(Refusal::RuleBroken { operation, reason }),
+        Verdict::Leaves => Answer::Refused(Refusal::ProductLeaves { operation }),
+    }
+}
+
+// The rules of an operation: its opcode's arm, then the closing rule on flush_to_zero.
+pub fn verify_operation(
+    version: u64,
+    t: &[u64],
+    v: &[u64],
+    o: &[u32],
+    a: &[u32],
+    l: &[u64],
+    sheet: &[u64],
+    n: Counts,
+    operation: u64,
+) -> Answer
+    ensures { λ r. ⌜ r ≡ verifyOperation version (now (sheet .entry)) (lent (now (t .entry)) (now (v .entry)) (now (o .entry)) (now (a .entry)) [] [] [] (now (l .entry)) n) operation ⌝ }
+{
+    let arm = arm_of(tables::opcode(o, n, operation));
+    let rule = arm_rule(version, t, v, o, a, l, sheet, n, operation, arm);
+    if let Answer::Refused(why) = judged(operation, rule) {
+        return Answer::Refused(why);
+    }
+    let closing = rules_small::flushed(t, v, o, a, l, sheet, n, operation);
+    judged(operation, closing)
+}
+
+// The rules of the operations, in the order given: the first refusal.
+pub fn check_rules(
+    version: u64,
+    t: &[u64],
+    v: &[u64],
+    o: &[u32],
+    a: &[u32],
+    l: &[u64],
+    sheet: &[u64],
+    n: Counts,
+    order: &[u64],
+) -> Answer
+    ensures { λ r. ⌜ r ≡ rules version (now (sheet .entry)) (lent (now (t .entry)) (now (v .entry)) (now (o .entry)) (now (a .entry)) [] [] [] (now (l .entry)) n) (now (order .entry)) ⌝ }
+{
+    let mut k = 0;
+    while k < order.len() {
+        let said = verify_operation(version, t, v, o, a, l, sheet, n, order[k]);
+        if let Answer::Refused(why) = said {
+            return Answer::Refused(why);
+        }
+        k += 1;
+    }
+    Answer::Accepted
+}
