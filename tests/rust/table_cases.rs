@@ -1,30 +1,8 @@
 // Tables filled by hand and at random, judged twice: by the bench, through its static library, and by a plain reading of the paper's
 // codes 1 to 4 written here, which shares nothing with the crates. Prints the seed; `table_cases SEED` runs a seed again.
-#[path = "shared/tables.rs"]
-mod tables;
+mod shared;
+use shared::{bench, damage::damage, tables::*};
 use std::collections::HashMap;
-use tables::*;
-
-#[allow(improper_ctypes)]
-extern "C" {
-    fn lavrindes_check_tables(
-        t: *const u64, t_len: usize, v: *const u64, v_len: usize, o: *const u32, o_len: usize, a: *const u32, a_len: usize,
-        b: *const u32, b_len: usize, r: *const u32, r_len: usize, f: *const u32, f_len: usize, l: *const u64, l_len: usize,
-        counts: *const u64, counts_len: usize, answer: *mut u64, answer_len: usize,
-    );
-}
-
-fn bench(x: &Tables) -> Answer {
-    let mut answer = [9, 9, 9];
-    unsafe {
-        lavrindes_check_tables(
-            x.t.as_ptr(), x.t.len(), x.v.as_ptr(), x.v.len(), x.o.as_ptr(), x.o.len(), x.a.as_ptr(), x.a.len(),
-            x.b.as_ptr(), x.b.len(), x.r.as_ptr(), x.r.len(), x.f.as_ptr(), x.f.len(), x.l.as_ptr(), x.l.len(),
-            x.n.as_ptr(), 7, answer.as_mut_ptr(), 3,
-        );
-    }
-    answer
-}
 
 // Case M of the paper, with an attribute of each form.
 fn case_m() -> Tables {
@@ -78,47 +56,6 @@ fn nested(depth: u64, down: bool) -> Tables {
     }
     x.function(id(0, depth + 1) as u32);
     x
-}
-
-// One damage: a cell of any table, a count, or a slice cut short.
-fn damage(x: &mut Tables, r: &mut Random) {
-    let near = |r: &mut Random, n: u64| [0, 1, 2, n.wrapping_sub(1), n, n + 1, 7, 9, 16, 105, u32::MAX as u64, 1 << 31, u64::MAX, 1 << 63][r.below(14) as usize];
-    let count = x.n[r.below(7) as usize];
-    let value = near(r, count);
-    let set32 = |cells: &mut Vec<u32>, at: u64| {
-        if !cells.is_empty() {
-            let k = at as usize % cells.len();
-            cells[k] = value as u32;
-        }
-    };
-    let set64 = |cells: &mut Vec<u64>, at: u64| {
-        if !cells.is_empty() {
-            let k = at as usize % cells.len();
-            cells[k] = value;
-        }
-    };
-    let at = r.next();
-    match r.below(12) {
-        0 => set64(&mut x.t, at),
-        1 => set64(&mut x.v, at),
-        2 | 3 => set32(&mut x.o, at),
-        4 => set32(&mut x.a, at),
-        5 => set32(&mut x.b, at),
-        6 => set32(&mut x.r, at),
-        7 => set32(&mut x.f, at),
-        8 | 9 => set64(&mut x.l, at),
-        10 => x.n[at as usize % 7] = value,
-        _ => match at % 8 {
-            0 => x.t.truncate(r.below(x.t.len() as u64 + 1) as usize),
-            1 => x.v.truncate(r.below(x.v.len() as u64 + 1) as usize),
-            2 => x.o.truncate(r.below(x.o.len() as u64 + 1) as usize),
-            3 => x.a.truncate(r.below(x.a.len() as u64 + 1) as usize),
-            4 => x.b.truncate(r.below(x.b.len() as u64 + 1) as usize),
-            5 => x.r.truncate(r.below(x.r.len() as u64 + 1) as usize),
-            6 => x.f.truncate(r.below(x.f.len() as u64 + 1) as usize),
-            _ => x.l.truncate(r.below(x.l.len() as u64 + 1) as usize),
-        },
-    }
 }
 
 // One fault: a cell, a count or the length of a slice.
@@ -244,7 +181,7 @@ fn main() {
     let mut codes = [0usize; 17];
     let mut ones = [0usize; 8];
     let mut judge = |x: &Tables, what: &str| {
-        let (ours, theirs) = (x.judge(), bench(x));
+        let (ours, theirs) = (x.judge(), bench::tables(x));
         if ours != theirs {
             println!("{what}: the paper {ours:?}, the bench {theirs:?}, counts {:?}, seed {seed}", x.n);
             std::process::exit(1);

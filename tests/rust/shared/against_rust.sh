@@ -1,30 +1,74 @@
-# against_rust NAME PART COUNT [SEED]: builds tests/rust/NAME.rs with the bench's static library, replays the 1,000 recorded modules of
-# seed 1, and compares COUNT modules under a fresh seed with the lines PART of the running Rust, where it can be run.
-against_rust() {
-    name=$1 part=$2 count=$3 seed=${4:-$(date +%s)} out=target/rust/$1
+# Building a test with the bench, and comparing it with the running Rust.
+
+# built NAME: builds tests/rust/NAME.rs with the bench's static library, as target/rust/NAME. The library is x86-64 code; on another
+# processor the bench is run behind a pipe, under the emulator of the kit.
+built() {
     mkdir -p target/rust
-    rt staticlib bench >target/rust/staticlib.log 2>&1 || { tail -n 20 target/rust/staticlib.log; return 1; }
-    rustc -O --edition 2021 -L target/staticlib -l static=bench -o "$out" "tests/rust/$name.rs" || return 1
-    "$out" 1 1000 "$out.texts" "$out.answers" || return 1
-    cmp "$out.answers" "tests/recorded/$name.txt" || return 1
-    oracle=${ORACLE:-../shared/oracle}
+    if [ ! -s target/staticlib/libbench.a ] || [ -n "$(find crates crates.txt -newer target/staticlib/libbench.a | head -n 1)" ]; then
+        rt staticlib bench >target/rust/staticlib.log 2>&1 || { tail -n 20 target/rust/staticlib.log; return 1; }
+    fi
+    if [ "$(uname -m)" = x86_64 ]; then
+        rustc -O --edition 2021 -L target/staticlib -l static=bench -o "target/rust/$1" "tests/rust/$1.rs"
+        return
+    fi
+    kit=$(dirname "$(readlink -f "$(command -v rt)")")/../on/$(uname -m)/toolchain/bin
+    "$kit/clang" --target=x86_64-unknown-linux-gnu -O2 -Werror -ffreestanding -fno-builtin -fno-stack-protector -c \
+        -o target/rust/served.o tests/rust/shared/served.c &&
+        "$kit/ld.lld" -o target/rust/served target/rust/served.o --whole-archive target/staticlib/libbench.a || return 1
+    BENCH_SERVED="$kit/qemu-x86_64 $PWD/target/rust/served"
+    export BENCH_SERVED
+    rustc -O --edition 2021 -o "target/rust/$1" "tests/rust/$1.rs"
+}
+
+# running_rust: builds the runnable Rust as target/oracle, once, with the program that prints its requirements.
+oracle=${ORACLE:-../shared/oracle}
+running_rust() {
+    [ -x target/oracle/target/release/requirement_table ] && return
+    rm -rf target/oracle target/docs
+    cp -r "$oracle" target/oracle
+    cp -r "$oracle/../docs" target/docs
+    chmod -R u+w target/oracle target/docs
+    mkdir -p target/oracle/src/bin
+    cp tests/rust/requirement_table.rs target/oracle/src/bin/
+    (cd target/oracle && sh setup.sh && cargo build --release --offline) >target/oracle.log 2>&1 ||
+        { tail -n 20 target/oracle.log; return 1; }
+}
+
+# asked PART TEXTS: what the running Rust answers of each text, one line each; `own` tells which of two reasons with one message it was.
+asked() {
+    [ "$1" = opx ] && flag=--opx || flag=
+    target/oracle/target/release/oracle $flag --batch "$2" --sheet target/oracle/crate.sheet 2>/dev/null |
+        awk -F '|' -v part="$1" '
+            $1 == part || $1 == "own" && $2 == part { sub(/^own\|/, ""); said = $0 }
+            $0 == "end" { print said; said = "" }'
+}
+
+# record NAME PART COUNT [LIST]: how tests/recorded/LIST.txt is made: the running Rust's lines PART of COUNT modules of seed 1.
+record() {
+    built "$1" && running_rust && target/rust/"$1" 1 "$3" "target/rust/$1.texts" - "$2" || return 1
+    asked "$2" "target/rust/$1.texts" >"tests/recorded/${4:-$1}.txt"
+}
+
+# against_rust NAME PART COUNT [SEED [LIST]]: replays the recorded modules of seed 1, and compares COUNT modules under a fresh seed with the
+# lines PART of the running Rust, where it can be run. The Rust's lines stay in target/rust/NAME.rust.
+against_rust() {
+    name=$1 part=$2 count=$3 seed=${4:-$(date +%s)} list=tests/recorded/${5:-$1}.txt out=target/rust/$1
+    built "$name" || return 1
+    recorded=$(wc -l <"$list")
+    "$out" 1 "$recorded" "$out.texts" "$out.answers" "$part" || return 1
+    cmp "$out.answers" "$list" || return 1
     if [ ! -d "$oracle" ]; then
-        echo "no runnable Rust here: 1000 recorded modules were replayed"
+        echo "no runnable Rust here: $recorded recorded modules were replayed"
         return 0
     fi
-    if [ ! -x target/oracle/target/release/oracle ]; then
-        rm -rf target/oracle target/docs
-        cp -r "$oracle" target/oracle
-        cp -r "$oracle/../docs" target/docs
-        chmod -R u+w target/oracle target/docs
-        (cd target/oracle && sh setup.sh && cargo build --release --offline) >target/oracle.log 2>&1 || { tail -n 20 target/oracle.log; return 1; }
-    fi
-    "$out" "$seed" "$count" "$out.texts" "$out.answers" || return 1
-    target/oracle/target/release/oracle --batch "$out.texts" --sheet target/oracle/crate.sheet 2>/dev/null | grep "^$part" >"$out.rust"
+    running_rust || return 1
+    "$out" "$seed" "$count" "$out.texts" "$out.answers" "$part" || return 1
+    asked "$part" "$out.texts" >"$out.rust"
     if ! cmp -s "$out.answers" "$out.rust"; then
         echo "seed $seed: the bench and the Rust differ, first at module $(diff "$out.answers" "$out.rust" | head -1)"
         diff "$out.answers" "$out.rust" | head -4
         return 1
     fi
-    echo "seed $seed: $count modules against the running Rust, $(grep -c "$part|ok" "$out.answers") accepted; 1000 recorded"
+    [ "$part" = opx ] && what="a copy of the Rust that asks the rule sheet" || what="the running Rust"
+    echo "seed $seed: $count modules against $what, $(grep -c "$part|ok" "$out.answers") accepted; $recorded recorded"
 }

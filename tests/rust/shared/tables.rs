@@ -1,6 +1,5 @@
 // Tables for the tests: a plain reading of the paper's codes 1 to 4, which shares nothing with the crates; a builder; random modules whose
 // ids do not rise with nesting; and a module's house text.
-#![allow(dead_code)]
 use std::collections::HashMap;
 
 #[derive(Clone, Default)]
@@ -115,24 +114,70 @@ impl Tables {
         };
         self.list(s, n).unwrap().to_vec()
     }
-    pub fn judge(&self) -> Answer {
-        let mut entries = 0;
-        for table in 0..7 {
-            for i in 0..self.n[table] {
-                if i >= SIZES[table] || (i as usize + 1) * WIDTHS[table] > self.cells(table) || !self.good(table, i as usize) {
-                    return [1, table as u64 + 1, i];
-                }
-                entries += self.lengths(table, i as usize);
-                if entries > 8192 {
-                    return [1, table as u64 + 1, i];
+    pub fn functions(&self) -> Vec<u64> {
+        self.f[..self.n[FUNCTIONS] as usize].iter().map(|f| *f as u64).collect()
+    }
+    // How many operands all operations have: no list of numbers is longer.
+    pub fn all_operands(&self) -> usize {
+        (0..self.n[OPERATIONS] as usize).map(|i| self.o[i * 16 + 4] as usize).sum()
+    }
+    // Reachable operations, outer before inner.
+    pub fn walk_order(&self) -> Vec<u64> {
+        fn go(x: &Tables, i: u64, out: &mut Vec<u64>) {
+            out.push(i);
+            for k in x.operands_of(OPERATIONS, i, 5) {
+                for j in x.operands_of(REGIONS, k, 0) {
+                    x.operands_of(BLOCKS, j, 2).into_iter().for_each(|inner| go(x, inner, out));
                 }
             }
         }
-        self.twice().or_else(|| self.deep()).or_else(|| self.values()).unwrap_or(ACCEPTED)
+        let mut out = vec![];
+        self.functions().into_iter().for_each(|f| go(self, f, &mut out));
+        out
+    }
+    // The value that claims each declared result, by operation, in the values' order.
+    pub fn values_of_results(&self) -> Vec<Vec<u64>> {
+        let mut results = vec![vec![]; self.n[OPERATIONS] as usize];
+        for v in 0..self.n[VALUES] {
+            let c = &self.v[v as usize * 4..];
+            if c[1] == 1 && c[3] < self.o[c[2] as usize * 16 + 2] as u64 {
+                results[c[2] as usize].push(v);
+            }
+        }
+        results
+    }
+    // Code 1 over some of the tables: sizes, entries as `good` wants them, list entries in all.
+    fn ranged(&self, tables: &[usize], good: impl Fn(usize, usize) -> bool) -> Option<Answer> {
+        let mut entries = 0;
+        for table in tables {
+            for i in 0..self.n[*table] {
+                if i >= SIZES[*table] || (i as usize + 1) * WIDTHS[*table] > self.cells(*table) || !good(*table, i as usize) {
+                    return Some([1, *table as u64 + 1, i]);
+                }
+                entries += self.lengths(*table, i as usize);
+                if entries > 8192 {
+                    return Some([1, *table as u64 + 1, i]);
+                }
+            }
+        }
+        None
+    }
+    pub fn judge(&self) -> Answer {
+        let ranged = self.ranged(&[0, 1, 2, 3, 4, 5, 6], |table, i| self.good(table, i));
+        ranged.or_else(|| self.twice()).or_else(|| self.deep()).or_else(|| self.values()).unwrap_or(ACCEPTED)
+    }
+    // What reading back asks: nothing of values, types, opcodes and attributes.
+    pub fn judge_nesting(&self) -> Answer {
+        let good = |table, i: usize| match table {
+            OPERATIONS => self.ids(&self.o, i * 16 + 5, self.n[REGIONS]),
+            BLOCKS => self.ids(&self.b, i * 4 + 2, self.n[OPERATIONS]),
+            _ => self.good(table, i),
+        };
+        self.ranged(&[OPERATIONS, BLOCKS, REGIONS, FUNCTIONS], good).or_else(|| self.twice()).or_else(|| self.deep()).unwrap_or(ACCEPTED)
     }
     pub fn twice(&self) -> Option<Answer> {
         let mut listed: [Vec<u64>; 3] = Default::default();
-        listed[0].extend(self.f[..self.n[FUNCTIONS] as usize].iter().map(|i| *i as u64));
+        listed[0].extend(self.functions());
         (0..self.n[BLOCKS]).for_each(|j| listed[0].extend(self.operands_of(BLOCKS, j, 2)));
         (0..self.n[REGIONS]).for_each(|k| listed[1].extend(self.operands_of(REGIONS, k, 0)));
         (0..self.n[OPERATIONS]).for_each(|i| listed[2].extend(self.operands_of(OPERATIONS, i, 5)));
@@ -161,7 +206,7 @@ impl Tables {
             }
             None
         }
-        self.f[..self.n[FUNCTIONS] as usize].iter().find_map(|f| open(self, *f as u64, 0))
+        self.functions().into_iter().find_map(|f| open(self, f, 0))
     }
     pub fn values(&self) -> Option<Answer> {
         let mut listed = vec![0; self.n[VALUES] as usize];
@@ -196,6 +241,26 @@ impl Random {
     pub fn below(&mut self, n: u64) -> u64 {
         self.next() % n.max(1)
     }
+    pub fn one_of<T: Clone>(&mut self, xs: &[T]) -> T {
+        xs[self.below(xs.len() as u64) as usize].clone()
+    }
+    // Once in n times.
+    pub fn once_in(&mut self, n: u64) -> bool {
+        self.below(n) == 0
+    }
+    // The ids below n in some order.
+    pub fn permutation(&mut self, n: u64) -> Vec<u64> {
+        let mut p: Vec<u64> = (0..n).collect();
+        (1..n).rev().for_each(|i| p.swap(i as usize, self.below(i + 1) as usize));
+        p
+    }
+}
+
+// Where a permutation puts each id.
+pub fn inverse(p: &[u64]) -> Vec<u64> {
+    let mut q = vec![0; p.len()];
+    p.iter().enumerate().for_each(|(old, new)| q[*new as usize] = old as u64);
+    q
 }
 
 // A builder of tables: rows are added, lists are laid out one after the other.
@@ -244,6 +309,12 @@ impl Tables {
     }
 }
 
+// A minor version and an sm number of the lists.
+pub fn target(r: &mut Random) -> (u64, u64) {
+    let version = 2 + r.below(3);
+    (version, r.one_of(&[80, 86, 87, 88, 89, 90, 100, 103, 107, 110, 120, 121]))
+}
+
 // A random module that mostly passes: nesting drawn first, then all ids permuted, so that they do not rise with nesting.
 pub fn random_module(r: &mut Random) -> Tables {
     let most = if r.below(50) == 0 { 2000 } else { 40 };
@@ -260,12 +331,8 @@ pub fn random_module(r: &mut Random) -> Tables {
         }
         parent_block.push(if r.below(20) == 0 { None } else { Some(r.below(region_of_block.len() as u64)) });
     }
-    let mut permutation = |n: u64| {
-        let mut p: Vec<u64> = (0..n).collect();
-        (1..n).rev().for_each(|i| p.swap(i as usize, r.below(i + 1) as usize));
-        p
-    };
-    let (po, pb, pr) = (permutation(operations), permutation(region_of_block.len() as u64), permutation(owner_of_region.len() as u64));
+    let (po, pb, pr) =
+        (r.permutation(operations), r.permutation(region_of_block.len() as u64), r.permutation(owner_of_region.len() as u64));
     let results: Vec<u64> = (0..operations).map(|_| r.below(3)).collect();
     let mut x = Tables::default();
     (0..1 + r.below(3)).for_each(|i| x.typed(1 + i, i, &[2]));
@@ -282,45 +349,28 @@ pub fn random_module(r: &mut Random) -> Tables {
             owners.push(Some(j));
         });
     }
-    let pv = {
-        let n = values.len();
-        let mut p: Vec<usize> = (0..n).collect();
-        (1..n).rev().for_each(|i| p.swap(i, r.below(i as u64 + 1) as usize));
-        p
-    };
-    let mut placed = vec![0usize; values.len()];
-    pv.iter().enumerate().for_each(|(new, old)| placed[*old] = new);
-    owners.iter().enumerate().filter_map(|(v, j)| j.map(|j| (v, j))).for_each(|(v, j)| arguments[j].push(placed[v] as u64));
-    pv.iter().for_each(|old| x.value(r.below(types), values[*old]));
-    let inverse = |p: &[u64]| {
-        let mut q = vec![0; p.len()];
-        p.iter().enumerate().for_each(|(old, new)| q[*new as usize] = old);
-        q
-    };
-    for new in 0..operations {
-        let old = inverse(&po)[new as usize] as u64;
+    let pv = r.permutation(values.len() as u64);
+    let placed = inverse(&pv);
+    owners.iter().enumerate().filter_map(|(v, j)| j.map(|j| (v, j))).for_each(|(v, j)| arguments[j].push(placed[v]));
+    pv.iter().for_each(|old| x.value(r.below(types), values[*old as usize]));
+    for old in inverse(&po) {
         let regions: Vec<u64> =
             (0..owner_of_region.len()).filter(|k| owner_of_region[*k] == old).map(|k| pr[k]).collect();
         let types_of: Vec<u64> = (0..results[old as usize]).map(|_| r.below(types)).collect();
         let operands: Vec<u64> = (0..r.below(3)).filter(|_| !values.is_empty()).map(|_| r.below(values.len() as u64)).collect();
         x.operation(r.below(105) as u32, &types_of, &operands, &regions, (0, 0));
     }
-    let ib = inverse(&pb);
-    for new in 0..pb.len() {
-        let old = ib[new];
-        let inside: Vec<u64> = (0..operations).filter(|i| parent_block[*i as usize] == Some(old as u64)).map(|i| po[i as usize]).collect();
-        x.block(&arguments[old], &inside);
+    for old in inverse(&pb) {
+        let inside: Vec<u64> = (0..operations).filter(|i| parent_block[*i as usize] == Some(old)).map(|i| po[i as usize]).collect();
+        x.block(&arguments[old as usize], &inside);
     }
-    let ir = inverse(&pr);
-    for new in 0..pr.len() {
-        let old = ir[new] as u64;
+    for old in inverse(&pr) {
         let inside: Vec<u64> = (0..pb.len()).filter(|j| region_of_block[*j] == old).map(|j| pb[j]).collect();
         x.region(&inside);
     }
     (0..operations).filter(|i| parent_block[*i as usize].is_none()).take(64).for_each(|i| x.function(po[i as usize] as u32));
     x
 }
-
 
 // ---- the house text
 
@@ -330,6 +380,16 @@ pub const NAMES: [&str; 14] = [
 ];
 
 impl Tables {
+    // An attribute's numbers: an absent one is empty, a divisor is unsigned.
+    fn numbers(&self, a: &[u32]) -> String {
+        let xs = self.list(a[2], a[3]).unwrap().iter().enumerate();
+        let written = xs.map(|(k, x)| match (a[4] >> k & 1, a[1], k) {
+            (1, _, _) => String::new(),
+            (_, 5, 0) => x.to_string(),
+            _ => (*x as i64).to_string(),
+        });
+        written.collect::<Vec<_>>().join(",")
+    }
     // The lines of the module; every number as the text writes it.
     pub fn text(&self, version: u64, sm: u64) -> String {
         let list = |xs: &[u64]| xs.iter().map(|x| (*x as i64).to_string()).collect::<Vec<_>>().join(",");
@@ -348,7 +408,7 @@ impl Tables {
             out += &format!("O\t{}\t{}\t{}\t{}\n", self.o[k], at(&self.o, k + 1), at(&self.o, k + 3), at(&self.o, k + 5));
             for m in self.o[k + 7]..self.o[k + 7] + self.o[k + 8] {
                 let a = &self.a[m as usize * 8..];
-                out += &format!("A\t{}\t{}\t{}\n", NAMES[a[0] as usize], &"ibazpdsrx"[a[1] as usize..][..1], at(a, 2));
+                out += &format!("A\t{}\t{}\t{}\n", NAMES[a[0] as usize], &"ibazpdsrx"[a[1] as usize..][..1], self.numbers(a));
             }
         }
         for j in 0..self.n[BLOCKS] as usize {

@@ -1,0 +1,81 @@
+-- `lavrindes_read_module`: the tables of a text, its header and counts, and the answer as three numbers. Assumes nothing.
+use mathlib.Core.Path.{ap, _∙_}
+use Rattle.house.specs.State.{State}
+use Rattle.bench.specs.Exported.{told, noted, headerNoted, countsNoted}
+use Rattle.bench.proofs.Laws.{left-as-read}
+use borrow.Author.Needs.{needs}
+use Rattle.bench.proofs.lavrindes_read_module.Statement.{statement}
+use Rattle.bench.proofs.lavrindes_read_module.Tie as tie
+
+read-module-requires : tie.Need-read-module-requires
+read-module-requires c κs = search needs
+
+note-reading-requires : tie.Need-note-reading-requires
+note-reading-requires c κs = search needs
+
+same-length : tie.Need-same-length
+same-length c = search needs
+
+same-length-2 : tie.Need-same-length-2
+same-length-2 c = search needs
+
+same-length-3 : tie.Need-same-length-3
+same-length-3 c = search needs
+
+same-length-4 : tie.Need-same-length-4
+same-length-4 c = search needs
+
+same-length-5 : tie.Need-same-length-5
+same-length-5 c = search needs
+
+same-length-6 : tie.Need-same-length-6
+same-length-6 c = search needs
+
+same-length-7 : tie.Need-same-length-7
+same-length-7 c = search needs
+
+same-length-8 : tie.Need-same-length-8
+same-length-8 c = search needs
+
+same-length-9 : tie.Need-same-length-9
+same-length-9 c = search needs
+
+same-length-10 : tie.Need-same-length-10
+same-length-10 c = search needs
+
+same-length-11 : tie.Need-same-length-11
+same-length-11 c = search needs
+
+returns : tie.Need-returns
+returns c =
+    let p = c .before .before .before .before .before .before .before .before .before .before .before .before .before .before .before .before .before .before .before .before .before .before .before .before .before .before .before .before .before .before .before .before .before .before .before .before .before .before .before .before .before .before .before .before .before .before .before .args in
+    let q = c .before .before .before .before .before .before .before .before .before .before .before .before .before .before .before .before .before .before .before .before .before .before .before .before .before .before .read-module .ensures in
+    let n = c .before .before .before .before .before .before .note-reading .ensures in (
+      left-as-read _ _ (ap (λ (w : State). w .tables) q),
+      (
+        n .0 ∙ ap (λ (w : State). headerNoted (w .version) (w .sm) (p .header .now)) q,
+        (
+          n .1 .0 ∙ ap (λ (w : State). countsNoted (w .tables .counts) (p .counts .now)) q,
+          n .1 .1 ∙ ap (λ (w : State). noted (told (w .answer)) (p .answer .now)) q,
+        ),
+      ),
+    )
+
+pub lavrindes-read-module-spec : {M : Type 1} → statement M
+lavrindes-read-module-spec =
+    tie.close
+    (tie.spec
+    read-module-requires
+    note-reading-requires
+    same-length
+    same-length-2
+    same-length-3
+    same-length-4
+    same-length-5
+    same-length-6
+    same-length-7
+    same-length-8
+    same-length-9
+    same-length-10
+    same-length-11
+    returns)
