@@ -266,7 +266,7 @@ pub extern "C" fn lavrindes_read_sheet(text: &[u8], sheet: &mut [u64], answer: &
     note(answer_numbers(said), answer);
 }
 
-// Codes 13, 1 and 15 of a module's text: its tables, header and counts; a refusal leaves them all zero.
+// Codes 13, 1 and 15 of a module's text: its tables, header and counts. A refusal leaves the tables all zero, and zeros for header and counts.
 #[no_mangle]
 pub extern "C" fn lavrindes_read_module(
     text: &[u8],

@@ -1,0 +1,13 @@
+pub mod Rows
+pub mod Said
+pub mod Types
+pub mod Values
+pub mod Operations
+pub mod Attributes
+pub mod Blocks
+pub mod Held
+pub mod Fold
+pub mod Formed
+pub mod Ids
+pub mod Laws
+pub mod Examples
