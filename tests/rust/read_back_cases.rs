@@ -107,6 +107,10 @@ fn main() {
             refused[code as usize] += 1;
         }
     }
+    if count > 0 && written == 0 {
+        println!("seed {seed}: no list was written and read back");
+        std::process::exit(1);
+    }
     for code in [1, 2, 3, 14] {
         if refused[code] == 0 {
             println!("seed {seed}: no case gave code {code}");
