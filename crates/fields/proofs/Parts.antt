@@ -125,6 +125,24 @@ module _ (b i : ℕ) (s : List ℕ) (h : i < length s) where
       rw (drop-cons s i 0 h, ne-eqb (getD s i 0) b e, add-one)
       (first-keeps (getD s i 0) (split b (drop (suc i) s)) (some-parts b (drop (suc i) s)))
 
+-- two, three and four bytes on
+module _ (b i : ℕ) (s : List ℕ) (h : i + 1 < length s) (n : getD s i 0 ≡ b → ⊥) (n₁ : getD s (i + 1) 0 ≡ b → ⊥) where
+  pub until-two : endFrom b (i + 2) s ≡ endFrom b i s
+  until-two =
+      let e : i + 2 ≡ i + 1 + 1 = omega arith in
+      ap (λ (k : ℕ). endFrom b k s) e ∙ until-next b (i + 1) s h n₁ ∙ until-next b i s (omega arith) n
+
+  module _ (h₂ : i + 2 < length s) (n₂ : getD s (i + 2) 0 ≡ b → ⊥) where
+    pub until-three : endFrom b (i + 3) s ≡ endFrom b i s
+    until-three =
+        let e : i + 3 ≡ i + 2 + 1 = omega arith in
+        ap (λ (k : ℕ). endFrom b k s) e ∙ until-next b (i + 2) s h₂ n₂ ∙ until-two
+
+    pub until-four : i + 3 < length s → (getD s (i + 3) 0 ≡ b → ⊥) → endFrom b (i + 4) s ≡ endFrom b i s
+    until-four h₃ n₃ =
+        let e : i + 4 ≡ i + 3 + 1 = omega arith in
+        ap (λ (k : ℕ). endFrom b k s) e ∙ until-next b (i + 3) s h₃ n₃ ∙ until-three
+
 module _ (b i : ℕ) (s : List ℕ) (h : length s ≤ i) where
   pub until-end : endFrom b i s ≡ length s
   unfolding endFrom until

@@ -1,3 +1,4 @@
+pub mod Moving
 pub mod Lists
 pub mod Fixed
 pub mod Several

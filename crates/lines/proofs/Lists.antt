@@ -1,20 +1,26 @@
 -- Lists read into the entries: a run of writes from a place on, and that the loop over the items gives the list and writes its numbers.
-use Prim.Native.Nat.{ℕ, suc, _+_, _≤_, min}
+use Prim.Native.Nat.{ℕ, suc, _+_, _≤_, _<_, min}
 use mathlib.Core.List.{List, [], _∷_, _++_}
 use mathlib.Core.Logic.{⊎-elim}
 use mathlib.Core.Option.{Option, some, none}
 use mathlib.Core.Path.{_≡_, refl, sym, _∙_, ap}
 use native.Mathlib.Omega.{arith}
-use lib.ListN.{length, set}
+use lib.ListN.{length, drop, set}
 use lib.Seq.{sets, set-out}
 use Rattle.cells.proofs.Rows.{lt-or-ge}
-use Rattle.fields.specs.Cut.{split}
+use Rattle.fields.specs.Cut.{endFrom, split}
+use Rattle.fields.specs.Taken.{partFrom, taken}
+use Rattle.fields.specs.declared.Taken.{Taken}
+use Rattle.fields.specs.declared.Taken.the-variants.{Number as Took, Bad as BadPart}
+use Rattle.fields.proofs.Parts.{split-cons, end-ge}
+use Rattle.fields.proofs.Takes.{taken-bad, taken-is}
 use Rattle.fields.specs.declared.Number.{Number}
 use Rattle.fields.specs.declared.Number.the-variants.{Is, Bad}
 use Rattle.lines.specs.declared.Listed.{Listed}
 use Rattle.lines.specs.declared.Listed.the-variants.{Count, Bad as BadList}
 use Rattle.lines.specs.Field.{ahead, items, listOf}
 use Rattle.lines.specs.Into.{onto, goodItems, goodOf, countOf, Left, left, listInto}
+use Rattle.lines.proofs.Moving.{from-last, from-more}
 
 -- ---- a run of writes
 
@@ -119,18 +125,45 @@ module _ (f : List ℕ → Number) (at : ℕ) (s l : List ℕ) where
           let e : min at (length l) + 0 ≡ min at (length l) = omega arith in
           rw (e, sets-min l at (goodItems f (split 44 (b ∷ bs))), from-none (items f (split 44 (b ∷ bs))))
 
-module _ (f : List ℕ → Number) (start : ℕ) (s : List ℕ) (ss : List (List ℕ)) (n : ℕ) (l : List ℕ) (v : Number) (e : v ≡ f s) where
-  pub item-is : (x : ℕ) → v ≡ Is x → run f start (s ∷ ss) n l ≡ run f start ss (n + 1) (set l (start + n) x)
+module _ (f : List ℕ → Number) (start : ℕ) (s : List ℕ) (ss : List (List ℕ)) (n : ℕ) (l : List ℕ) where
+  item-is : (x : ℕ) → f s ≡ Is x → run f start (s ∷ ss) n l ≡ run f start ss (n + 1) (set l (start + n) x)
   unfolding run
-  item-is x k = rw (← e, k)
+  item-is x k = rw k
 
-  pub item-bad : v ≡ Bad → run f start (s ∷ ss) n l ≡ left BadList l
+  item-bad : f s ≡ Bad → run f start (s ∷ ss) n l ≡ left BadList l
   unfolding run
-  item-bad k = rw (← e, k)
+  item-bad k = rw k
 
-pub run-end : (f : List ℕ → Number) (start n : ℕ) (l : List ℕ) → run f start [] n l ≡ left (Count n) l
+run-end : (f : List ℕ → Number) (start n : ℕ) (l : List ℕ) → run f start [] n l ≡ left (Count n) l
 unfolding run
 run-end f start n l = refl
+
+-- the item at the cursor p
+module _ (f : List ℕ → Number) (start p n : ℕ) (s l : List ℕ) (h : p ≤ length s) (r : Taken)
+    (e : r ≡ taken (f (partFrom 44 p s)) (endFrom 44 p s + 1)) where
+  pub list-stops : r ≡ BadPart → left BadList l ≡ run f start (split 44 (drop p s)) n l
+  list-stops k =
+      let q = split-cons 44 (drop p s) in
+      sym (ap (λ (ss : List (List ℕ)). run f start ss n l) (q .1)
+      ∙ item-bad f start (partFrom 44 p s) (q .0) n l (taken-bad (f (partFrom 44 p s)) (endFrom 44 p s + 1) (sym e ∙ k)))
+
+  module _ (x q : ℕ) (k : r ≡ Took x q) where
+    item-taken : (f (partFrom 44 p s) ≡ Is x) × (q ≡ endFrom 44 p s + 1)
+    item-taken = taken-is (f (partFrom 44 p s)) (endFrom 44 p s + 1) x q (sym e ∙ k)
+
+    pub list-on : p < q
+    list-on = omega (arith, item-taken .1, end-ge 44 p (endFrom 44 p s) s h refl)
+
+    pub list-ends : length s < q → left (Count (n + 1)) (set l (start + n) x) ≡ run f start (split 44 (drop p s)) n l
+    list-ends o =
+        sym (ap (λ (ss : List (List ℕ)). run f start ss n l) (from-last 44 p s h (omega (arith, item-taken .1)))
+        ∙ item-is f start (partFrom 44 p s) [] n l x (item-taken .0) ∙ run-end f start (n + 1) (set l (start + n) x))
+
+    pub list-goes : q ≤ length s → run f start (split 44 (drop q s)) (n + 1) (set l (start + n) x) ≡ run f start (split 44 (drop p s)) n l
+    list-goes o =
+        ap (λ (i : ℕ). run f start (split 44 (drop i s)) (n + 1) (set l (start + n) x)) (item-taken .1)
+        ∙ sym (ap (λ (ss : List (List ℕ)). run f start ss n l) (from-more 44 p s h (omega (arith, item-taken .1)))
+        ∙ item-is f start (partFrom 44 p s) (split 44 (drop (endFrom 44 p s + 1) s)) n l x (item-taken .0))
 
 -- ---- what the answer says: a count of the numbers read, which are those written; or that there is no such list
 module _ (f : List ℕ → Number) (at : ℕ) (s l w : List ℕ) where

@@ -1,11 +1,15 @@
 // One line of each kind of the house text, judged by its leftmost bad field. Lists go straight into the lent list entries.
 ghost use mathlib.Core.Path.{_≡_};
-ghost use Rattle.fields.specs.Cut.{split, nth};
+ghost use Prim.Native.Nat.{_+_, _-_};
+ghost use lib.ListN.{take, drop};
+ghost use Rattle.fields.specs.Cut.{endFrom, split};
+ghost use Rattle.fields.specs.Taken.{partFrom, taken};
 ghost use Rattle.lines.specs.Field.{bad, id32, integer64, orAbsent};
 ghost use Rattle.lines.specs.Line.{headerLine, typeLine, valueLine, single, three, two, formOf, functionLine};
 ghost use Rattle.lines.specs.Into.{numberIn, left, listInto};
 ghost use Rattle.lines.specs.Answer.{headerOf, typeOf, dimWidth, valueOf, functionOf, pairInto, operationInto, slotOf, heldInto, wholeInto, numbersInto, attributeInto, blockInto, regionInto};
 use fields::Number;
+use fields::Taken;
 
 // The greatest id and the greatest number, and half of the numbers of 32 and of 64 bits.
 const MAX_ID: u64 = 4294967295;
@@ -120,6 +124,16 @@ pub fn number_in(field: &[u8], width: Width) -> Number
     }
 }
 
+// The number in the part that starts at a place and ends before a byte.
+fn number_from(s: &[u8], place: u64, byte: u8, width: Width) -> Taken
+    ensures { λ r. ⌜ r ≡ taken (numberIn width (partFrom byte place (now (s .entry)))) (endFrom byte place (now (s .entry)) + 1) ⌝ }
+{
+    match width {
+        Width::Unsigned(max) => fields::unsigned_from(s, place, byte, max),
+        Width::Signed(half) => fields::signed_from(s, place, byte, half),
+    }
+}
+
 // The numbers of a list, written from a place on as far as the entries go, in one pass; and their count.
 pub fn list_into(field: &[u8], width: Width, at: u64, l: &mut [u64]) -> Listed
     ensures { λ r. ⌜ left r (now (l .exit)) ≡ listInto (numberIn width) at (now (field .entry)) (now (l .entry)) ⌝ }
@@ -132,47 +146,49 @@ pub fn list_into(field: &[u8], width: Width, at: u64, l: &mut [u64]) -> Listed
     let mut n: u64 = 0;
     let mut p: u64 = 0;
     loop {
-        let e = fields::find(field, p, 44);
-        match number_in(fields::between(field, p, e), width) {
-            Number::Is(x) => {
-                cells::put_u64(l, start + n, x);
-                n += 1;
-            }
-            Number::Bad => {
-                return Listed::Bad;
-            }
-        }
-        if e < field.len() as u64 {
-            p = e + 1;
-        } else {
+        let a = number_from(field, p, 44, width);
+        let Taken::Number(x, next) = a else {
+            return Listed::Bad;
+        };
+        cells::put_u64(l, start + n, x);
+        n += 1;
+        if (field.len() as u64) < next {
             return Listed::Count(n);
         }
+        p = next;
     }
 }
 
-// The number in field k of a line, counted from 0.
-fn number_at(line: &[u8], k: u64, width: Width) -> Number
-    ensures { λ r. ⌜ r ≡ numberIn width (nth k (split 9 (now (line .entry)))) ⌝ }
+// Where the field after the one at a place starts.
+fn after(line: &[u8], place: u64) -> u64
+    ensures { λ r. ⌜ r ≡ endFrom 9 place (now (line .entry)) + 1 ⌝ }
 {
-    number_in(fields::part(line, 9, k), width)
+    fields::find(line, place, 9) + 1
+}
+
+// The field from a place up to the tab before the next.
+fn field(line: &[u8], place: u64, next: u64) -> &[u8]
+    ensures { λ r. ⌜ now r ≡ take (next - 1 - place) (drop place (now (line .entry))) ⌝ }
+{
+    fields::between(line, place, cells::rest(next, 1))
 }
 
 pub fn header_line(line: &[u8]) -> HeaderLine
     ensures { λ r. ⌜ r ≡ headerOf (headerLine (split 9 (now (line .entry)))) ⌝ }
 {
-    let a = number_at(line, 1, Width::Signed(HALF_64));
-    let Number::Is(one) = a else {
+    let a = number_from(line, after(line, 0), 9, Width::Signed(HALF_64));
+    let Taken::Number(one, second) = a else {
         return HeaderLine::Bad(2);
     };
     if one != 1 {
         return HeaderLine::Bad(2);
     }
-    let b = number_at(line, 2, Width::Signed(HALF_64));
-    let Number::Is(version) = b else {
+    let b = number_from(line, second, 9, Width::Signed(HALF_64));
+    let Taken::Number(version, third) = b else {
         return HeaderLine::Bad(3);
     };
-    let d = number_at(line, 3, Width::Signed(HALF_64));
-    let Number::Is(sm) = d else {
+    let d = number_from(line, third, 9, Width::Signed(HALF_64));
+    let Taken::Number(sm, _) = d else {
         return HeaderLine::Bad(4);
     };
     HeaderLine::Row { version, sm }
@@ -205,29 +221,30 @@ fn dim_width(form: u64) -> Width
 pub fn type_line(line: &[u8]) -> TypeLine
     ensures { λ r. ⌜ r ≡ typeOf (typeLine (split 9 (now (line .entry)))) ⌝ }
 {
-    let a = number_at(line, 1, Width::Unsigned(6));
-    let Number::Is(form) = a else {
+    let a = number_from(line, after(line, 0), 9, Width::Unsigned(6));
+    let Taken::Number(form, second) = a else {
         return bad_type(2);
     };
-    let b = number_at(line, 2, Width::Unsigned(15));
-    let Number::Is(kind) = b else {
+    let b = number_from(line, second, 9, Width::Unsigned(15));
+    let Taken::Number(kind, third) = b else {
         return bad_type(3);
     };
-    let d = number_at(line, 3, Width::Unsigned(MAX_ID));
-    let Number::Is(pointer) = d else {
+    let d = number_from(line, third, 9, Width::Unsigned(MAX_ID));
+    let Taken::Number(pointer, fourth) = d else {
         return bad_type(4);
     };
-    let e = number_at(line, 4, Width::Unsigned(1));
-    let Number::Is(padded) = e else {
+    let e = number_from(line, fourth, 9, Width::Unsigned(1));
+    let Taken::Number(padded, fifth) = e else {
         return bad_type(5);
     };
-    let f = number_at(line, 5, Width::Signed(HALF_32));
-    let Number::Is(sparse) = f else {
+    let f = number_from(line, fifth, 9, Width::Signed(HALF_32));
+    let Taken::Number(sparse, sixth) = f else {
         return bad_type(6);
     };
     let mut dims = [0u64; 8];
     let width = dim_width(form);
-    let g = list_into(fields::part(line, 9, 6), width, 0, &mut dims);
+    let last = field(line, sixth, after(line, sixth));
+    let g = list_into(last, width, 0, &mut dims);
     let Listed::Count(rank) = g else {
         return bad_type(7);
     };
@@ -246,12 +263,13 @@ pub fn type_line(line: &[u8]) -> TypeLine
 pub fn value_line(line: &[u8]) -> ValueLine
     ensures { λ r. ⌜ r ≡ valueOf (valueLine (split 9 (now (line .entry)))) ⌝ }
 {
-    let a = number_at(line, 1, Width::Unsigned(MAX_ID));
-    let Number::Is(type_id) = a else {
+    let a = number_from(line, after(line, 0), 9, Width::Unsigned(MAX_ID));
+    let Taken::Number(type_id, second) = a else {
         return ValueLine::Bad(2);
     };
-    let owner = fields::part(line, 9, 2);
-    let result = fields::part(line, 9, 3);
+    let third = after(line, second);
+    let owner = field(line, second, third);
+    let result = field(line, third, after(line, third));
     if owner.len() == 0 {
         if result.len() == 0 {
             return ValueLine::Row {
@@ -282,8 +300,8 @@ pub fn value_line(line: &[u8]) -> ValueLine
 pub fn function_line(line: &[u8]) -> FunctionLine
     ensures { λ r. ⌜ r ≡ functionOf (functionLine (split 9 (now (line .entry)))) ⌝ }
 {
-    let a = number_at(line, 1, Width::Unsigned(MAX_ID));
-    let Number::Is(operation) = a else {
+    let a = number_from(line, after(line, 0), 9, Width::Unsigned(MAX_ID));
+    let Taken::Number(operation, _) = a else {
         return FunctionLine::Bad(2);
     };
     FunctionLine::Row(operation)
@@ -308,18 +326,25 @@ fn two_lists(first: &[u8], second: &[u8], at: u64, l: &mut [u64]) -> Pair
 pub fn operation_line(line: &[u8], at: u64, l: &mut [u64]) -> OperationLine
     ensures { λ r. ⌜ left r (now (l .exit)) ≡ operationInto at (split 9 (now (line .entry))) (now (l .entry)) ⌝ }
 {
-    let a = number_at(line, 1, Width::Unsigned(104));
-    let Number::Is(opcode) = a else {
+    let a = number_from(line, after(line, 0), 9, Width::Unsigned(104));
+    let Taken::Number(opcode, second) = a else {
         return OperationLine::Bad(2);
     };
+    let third = after(line, second);
     let start = cells::least(at, l.len() as u64);
-    let b = list_into(fields::part(line, 9, 2), Width::Unsigned(MAX_ID), start, l);
+    let b = list_into(
+        field(line, second, third),
+        Width::Unsigned(MAX_ID),
+        start,
+        l,
+    );
     let Listed::Count(results) = b else {
         return OperationLine::Bad(3);
     };
-    let third = fields::part(line, 9, 3);
-    let fourth = fields::part(line, 9, 4);
-    let d = two_lists(third, fourth, start + results, l);
+    let fourth = after(line, third);
+    let operands = field(line, third, fourth);
+    let regions = field(line, fourth, after(line, fourth));
+    let d = two_lists(operands, regions, start + results, l);
     match d {
         Pair::BadFirst => OperationLine::Bad(4),
         Pair::BadSecond => OperationLine::Bad(5),
@@ -484,15 +509,19 @@ fn numbers_into(field: &[u8], form: u64, at: u64, l: &mut [u64]) -> Filled
 pub fn attribute_line(line: &[u8], at: u64, l: &mut [u64]) -> AttributeLine
     ensures { λ r. ⌜ left r (now (l .exit)) ≡ attributeInto at (split 9 (now (line .entry))) (now (l .entry)) ⌝ }
 {
-    let name = fields::part(line, 9, 1);
+    let first = after(line, 0);
+    let second = after(line, first);
+    let name = field(line, first, second);
     if name.len() == 0 {
         return AttributeLine::Bad(2);
     }
-    let form = form_of(fields::part(line, 9, 2));
+    let third = after(line, second);
+    let form = form_of(field(line, second, third));
     if 9 <= form {
         return AttributeLine::Bad(3);
     }
-    let a = numbers_into(fields::part(line, 9, 3), form, at, l);
+    let last = field(line, third, after(line, third));
+    let a = numbers_into(last, form, at, l);
     let Filled::Held { count, missing } = a else {
         return AttributeLine::Bad(4);
     };
@@ -507,9 +536,11 @@ pub fn attribute_line(line: &[u8], at: u64, l: &mut [u64]) -> AttributeLine
 pub fn block_line(line: &[u8], at: u64, l: &mut [u64]) -> BlockLine
     ensures { λ r. ⌜ left r (now (l .exit)) ≡ blockInto at (split 9 (now (line .entry))) (now (l .entry)) ⌝ }
 {
-    let first = fields::part(line, 9, 1);
-    let second = fields::part(line, 9, 2);
-    let a = two_lists(first, second, at, l);
+    let first = after(line, 0);
+    let second = after(line, first);
+    let arguments = field(line, first, second);
+    let operations = field(line, second, after(line, second));
+    let a = two_lists(arguments, operations, at, l);
     match a {
         Pair::BadFirst => BlockLine::Bad(2),
         Pair::BadSecond => BlockLine::Bad(3),
@@ -523,7 +554,9 @@ pub fn block_line(line: &[u8], at: u64, l: &mut [u64]) -> BlockLine
 pub fn region_line(line: &[u8], at: u64, l: &mut [u64]) -> RegionLine
     ensures { λ r. ⌜ left r (now (l .exit)) ≡ regionInto at (split 9 (now (line .entry))) (now (l .entry)) ⌝ }
 {
-    let a = list_into(fields::part(line, 9, 1), Width::Unsigned(MAX_ID), at, l);
+    let first = after(line, 0);
+    let last = field(line, first, after(line, first));
+    let a = list_into(last, Width::Unsigned(MAX_ID), at, l);
     let Listed::Count(blocks) = a else {
         return RegionLine::Bad(2);
     };
