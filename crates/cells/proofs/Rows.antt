@@ -4,8 +4,8 @@ use mathlib.Core.Path.{_≡_, refl, sym, ap, _∙_}
 use mathlib.Core.List.{List}
 use mathlib.Core.Logic.{_⊎_, inl, inr, ⊎-elim}
 use mathlib.Core.Bool.{Bool, true, false}
-use Prim.Native.Nat.{ℕ, _+_, _*_, _/_, _%_, _≤_, _<_, min}
-use native.Mathlib.Nat.{div-lt-iff-lt-mul, le-div-iff-mul-le}
+use Prim.Native.Nat.{ℕ, suc, _+_, _*_, _/_, _%_, _≤_, _<_, min}
+use native.Mathlib.Nat.{div-lt-iff-lt-mul, le-div-iff-mul-le, suc-mul}
 use native.Mathlib.Omega.{arith}
 use lib.Arith.{digits-div, digits-mod}
 use lib.Dec.{ltb}
@@ -29,6 +29,9 @@ module _ (n : ℕ) {w i : ℕ} (p : 0 < w) where
 
   pub row-within : i ≤ n / w → i * w ≤ n
   row-within h = le-div-iff-mul-le p .0 h
+
+  pub row-whole : i < n / w → i * w + w ≤ n
+  row-whole h = let e : suc i * w ≤ n = le-div-iff-mul-le p .0 h in let m = suc-mul i w in omega arith
 
 -- an index cut at the length reads and writes the same
 module _ (xs : List ℕ) (k : ℕ) where

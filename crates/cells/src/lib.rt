@@ -69,6 +69,12 @@ pub fn narrow(x: u64) -> u32
 pub fn place(len: u64, width: u64, row: u64, column: u64) -> u64
     ensures { λ r. ⌜ r ≡ min (row * width + column) len ⌝ }
 {
+    // A row that stands whole: the common case, asked first.
+    if column < width {
+        if row < len / width {
+            return row * width + column;
+        }
+    }
     if len <= column {
         return len;
     }
@@ -117,11 +123,13 @@ pub fn put_cell_u64(s: &mut [u64], width: u64, row: u64, column: u64, x: u64)
 pub fn span_at(s: &[u32], width: u64, row: u64, column: u64) -> Span
     ensures { λ r. ⌜ r ≡ spanAt width (now (s .entry)) row column ⌝ }
 {
-    let start = cell_u32(s, width, row, column);
-    if s.len() as u64 <= column {
-        return Span { start, len: 0 };
+    let n = s.len() as u64;
+    let k = place(n, width, row, column);
+    if n <= k {
+        return Span { start: 0, len: 0 };
     }
-    let len = cell_u32(s, width, row, column + 1);
+    let start = at_u32(s, k);
+    let len = at_u32(s, k + 1);
     Span { start, len }
 }
 

@@ -109,7 +109,6 @@ pub fn unsigned_from(s: &[u8], start: u64, byte: u8, max: u64) -> Taken
         }
         return Taken::Bad;
     }
-    let tenth = max / 10;
     let mut x: u64 = 0;
     let mut i: usize = first;
     while i < n {
@@ -123,10 +122,14 @@ pub fn unsigned_from(s: &[u8], start: u64, byte: u8, max: u64) -> Taken
         if 57 < b {
             return Taken::Bad;
         }
-        if tenth < x {
+        // Ten times as much would leave 64 bits.
+        if 1844674407370955161 < x {
             return Taken::Bad;
         }
         let tens = x * 10;
+        if max < tens {
+            return Taken::Bad;
+        }
         let digit = wide(b) - 48;
         if max - tens < digit {
             return Taken::Bad;

@@ -68,9 +68,12 @@ fn first_number(a: &[u32], l: &[u64], n: Counts, attribute: u64) -> u64
 fn is_entry(a: &[u32], l: &[u64], n: Counts, attribute: u64, name: u64, wanted: Wanted) -> bool
     ensures { λ r. ⌜ r ≡ isEntry (now (a .entry)) (now (l .entry)) n name wanted attribute ⌝ }
 {
+    if tables::attribute_name(a, n, attribute) != name {
+        return false;
+    }
     let form = tables::attribute_form(a, n, attribute);
     let first = first_number(a, l, n, attribute);
-    (tables::attribute_name(a, n, attribute) == name) & is_taken(wanted, form, first)
+    is_taken(wanted, form, first)
 }
 
 // The first attribute of an operation with this name that is as wanted.

@@ -1,11 +1,13 @@
 -- The constant tables: a requirement from its three columns, a position in a table, and the search through the targets.
-use mathlib.Core.Path.{_≡_, refl, ap}
+use mathlib.Core.Path.{_≡_, refl, sym, ap, subst}
+use mathlib.Core.Bool.{Bool, true, false, _&&_}
 use mathlib.Core.List.{List, [], _∷_, map}
 use Prim.Native.Nat.{ℕ, zero, suc, _+_, _≤_, _<_}
 use native.Mathlib.Numerals.{add-one}
 use lib.ListN.{length, drop, getD}
 use lib.Seq.{drop-cons}
-use borrow.Author.Tests.{lt-ltb, le-ltb, eq-eqb, ne-eqb}
+use lib.Dec.{T, ltb}
+use borrow.Author.Tests.{lt-ltb, le-ltb, eq-eqb, ne-eqb, ltb-true}
 use Rattle.requirements.specs.Feature.{need, nothingNeeded, ruleOf, smOf, architectureFrom}
 use Rattle.requirements.specs.Position.{askedAt}
 use Rattle.requirements.specs.Target as targets
@@ -45,6 +47,24 @@ module _ (table : List ℕ) (position : ℕ) where
 
   pub outside : length table ≤ position → Nothing ≡ askedAt table position
   outside h = simp (le-ltb _ _ h)
+
+-- the code's tables hold bytes
+unfoldable pub allBytes : List ℕ → Bool
+allBytes [] = true
+allBytes (x ∷ xs) = ltb x 256 && allBytes xs
+
+no-true {ℓ} : {X : Type ℓ} → false ≡ true → X
+no-true e = absurd (subst T (sym e) tt)
+
+both : (t : Bool) {u : Bool} → t && u ≡ true → (t ≡ true) × (u ≡ true)
+both true e = (refl, e)
+both false e = no-true e
+
+pub byte : (xs : List ℕ) (k : ℕ) → allBytes xs ≡ true → getD xs k 0 < 256
+unfolding allBytes
+byte [] k e = ltb-true 0 256 refl
+byte (x ∷ xs) zero e = ltb-true x 256 (both (ltb x 256) e .0)
+byte (x ∷ xs) (suc k) e = byte xs k (both (ltb x 256) e .1)
 
 abbrev pub noTarget : Target
 noTarget = target 0 0

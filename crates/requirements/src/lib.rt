@@ -53,8 +53,9 @@ const EXP_ROUNDING: u64 = 23;
 
 const PRODUCER_FEATURE: u64 = 24;
 
+// The constant tables hold bytes: a lookup writes its table out before it reads a place of it.
 // The first minor version with each feature.
-const SINCE: [u64; 35] = [
+const SINCE: [u8; 35] = [
     2,
     3,
     3,
@@ -93,7 +94,7 @@ const SINCE: [u64; 35] = [
 ];
 
 // The architecture rule of each feature: 0 any, 1 at least, 2 only.
-const ARCHITECTURE: [u64; 35] = [
+const ARCHITECTURE: [u8; 35] = [
     1,
     0,
     0,
@@ -132,7 +133,7 @@ const ARCHITECTURE: [u64; 35] = [
 ];
 
 // The sm that the rule names; 0 where any will do.
-const SM: [u64; 35] = [
+const SM: [u8; 35] = [
     80,
     0,
     0,
@@ -171,13 +172,13 @@ const SM: [u64; 35] = [
 ];
 
 // The targets of the dialect.
-const TARGET_SM: [u64; 12] = [80, 86, 87, 88, 89, 90, 100, 103, 107, 110, 120, 121];
+const TARGET_SM: [u8; 12] = [80, 86, 87, 88, 89, 90, 100, 103, 107, 110, 120, 121];
 
 // The feature that each target asks for.
-const TARGET_FEATURE: [u64; 12] = [0, 0, 0, 0, 0, 32, 0, 0, 33, 0, 0, 0];
+const TARGET_FEATURE: [u8; 12] = [0, 0, 0, 0, 0, 32, 0, 0, 33, 0, 0, 0];
 
 // The feature that each opcode asks for.
-const OPCODE: [u64; 105] = [
+const OPCODE: [u8; 105] = [
     0,
     0,
     0,
@@ -286,7 +287,7 @@ const OPCODE: [u64; 105] = [
 ];
 
 // The feature that each element kind asks for.
-const KIND: [u64; 16] = [0, 11, 0, 0, 0, 0, 0, 0, 0, 0, 0, 12, 12, 13, 14, 15];
+const KIND: [u8; 16] = [0, 11, 0, 0, 0, 0, 0, 0, 0, 0, 0, 12, 12, 13, 14, 15];
 
 // The architectures that a rule and its sm name.
 fn architecture_of(rule: u64, sm: u64) -> Architecture
@@ -310,9 +311,9 @@ pub fn feature_requirement(feature: u64) -> Requirement
         };
     }
     let i = feature as usize;
-    let architecture = architecture_of(ARCHITECTURE[i], SM[i]);
+    let architecture = architecture_of(ARCHITECTURE[i] as u64, SM[i] as u64);
     Requirement {
-        since: SINCE[i],
+        since: SINCE[i] as u64,
         architecture,
     }
 }
@@ -351,8 +352,8 @@ pub fn target_requirement(sm: u64) -> Asked
 {
     let mut i: usize = 0;
     while i < 12 {
-        if TARGET_SM[i] == sm {
-            return Asked::Feature(TARGET_FEATURE[i]);
+        if TARGET_SM[i] as u64 == sm {
+            return Asked::Feature(TARGET_FEATURE[i] as u64);
         }
         i += 1;
     }
@@ -365,7 +366,7 @@ pub fn opcode_requirement(opcode: u64) -> Asked
 {
     if opcode < 105 {
         let i = opcode as usize;
-        Asked::Feature(OPCODE[i])
+        Asked::Feature(OPCODE[i] as u64)
     } else {
         Asked::Nothing
     }
@@ -377,7 +378,7 @@ pub fn scalar_requirement(kind: u64) -> Asked
 {
     if kind < 16 {
         let i = kind as usize;
-        Asked::Feature(KIND[i])
+        Asked::Feature(KIND[i] as u64)
     } else {
         Asked::Nothing
     }

@@ -331,8 +331,11 @@ pub fn flushed(
 ) -> Verdict
     ensures { λ r. ⌜ r ≡ flushed (now (sheet .entry)) (lent (now (t .entry)) (now (v .entry)) (now (o .entry)) (now (a .entry)) [] [] [] (now (l .entry)) n) operation ⌝ }
 {
+    if !lookups::flushes(o, a, l, n, operation) {
+        return Verdict::Holds;
+    }
     let source = lookups::operand_tile(t, v, o, l, sheet, n, operation, 0);
-    if lookups::flushes(o, a, l, n, operation) & !tiles::has_kind(source, tiles::F32) {
+    if !tiles::has_kind(source, tiles::F32) {
         return Verdict::Broken(99);
     }
     Verdict::Holds

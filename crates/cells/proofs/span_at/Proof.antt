@@ -1,28 +1,40 @@
 -- `span_at`: the two cells of a list's span, for every row and column. Assumes nothing.
 use borrow.Author.Needs.{needs}
 use native.Mathlib.Omega.{arith}
-use Prim.Native.Nat.{_+_, _*_}
-use lib.ListN.{List·getD-eq-default}
+use mathlib.Core.Path.{_≡_, ap}
+use Prim.Native.Nat.{ℕ, _+_, _*_}
+use lib.ListN.{getD, List·getD-eq-default}
 use Rattle.cells.proofs.span_at.Statement.{statement}
 use Rattle.cells.proofs.span_at.Tie as tie
 
-cell-u32-requires : tie.Need-cell-u32-requires
-cell-u32-requires c κs = search needs
+place-requires : tie.Need-place-requires
+place-requires c κs = search needs
 
 returns : tie.Need-returns
 returns c =
     let a = c .before .before .before .args in
-    simp (c .before .cell-u32 .ensures, List·getD-eq-default (a .s .now) 0 {n = a .row * a .width + (a .column + 1)} (omega arith))
+    let e = c .before .place .ensures in
+    simp (List·getD-eq-default (a .s .now) 0 {n = a .row * a .width + a .column} (omega (arith, e)), List·getD-eq-default (a .s .now) 0 {n = a .row * a .width + (a .column + 1)} (omega (arith, e)))
 
-add-cell-u32 : tie.Need-add-cell-u32
-add-cell-u32 c = search needs
+at-u32-requires : tie.Need-at-u32-requires
+at-u32-requires c κs = search needs
 
-cell-u32-requires-2 : tie.Need-cell-u32-requires-2
-cell-u32-requires-2 c κs = search needs
+add-at-u32 : tie.Need-add-at-u32
+add-at-u32 c = search needs
+
+at-u32-requires-2 : tie.Need-at-u32-requires-2
+at-u32-requires-2 c κs = search needs
 
 returns-2 : tie.Need-returns-2
-returns-2 c = simp (c .before .before .cell-u32 .ensures, c .cell-u322 .ensures)
+returns-2 c =
+    let a = c .before .before .before .before .before .args in
+    let e = c .before .before .before .place .ensures in
+    let k = c .before .before .before .place .result in
+    let here : k ≡ a .row * a .width + a .column = omega (arith, e) in
+    let next : k + 1 ≡ a .row * a .width + (a .column + 1) = omega (arith, e) in
+    simp (c .before .at-u32 .ensures, c .at-u322 .ensures, ap (λ (i : ℕ). getD (a .s .now) i 0) here, ap (λ (i : ℕ). getD (a .s .now) i 0) next)
 
 pub span-at-spec : {M : Type 1} → statement M
 span-at-spec =
-    tie.close (tie.spec cell-u32-requires returns add-cell-u32 cell-u32-requires-2 returns-2)
+    tie.close
+    (tie.spec place-requires returns at-u32-requires add-at-u32 at-u32-requires-2 returns-2)

@@ -1,9 +1,10 @@
 -- `feature_requirement` meets its contract: the three tables are the columns of the definition's rows, by computation.
 use borrow.Author.Needs.{needs}
-use mathlib.Core.Path.{sym, ap, _∙_}
+use mathlib.Core.Path.{refl, sym, ap, _∙_}
+use native.Mathlib.Omega.{arith}
 use lib.ListN.{getD, List·getD-eq-default}
 use Rattle.requirements.specs.Feature.{need, nothingNeeded, features, requirementOf}
-use Rattle.requirements.proofs.Tables.{sinces, row}
+use Rattle.requirements.proofs.Tables.{sinces, rules, sms, row, allBytes, byte}
 use Rattle.requirements.proofs.feature_requirement.Statement.{statement}
 use Rattle.requirements.proofs.feature_requirement.Tie as tie
 
@@ -11,26 +12,29 @@ returns : tie.Need-returns
 unfolding features requirementOf
 returns c = sym (List·getD-eq-default features nothingNeeded {n = c .before .args .feature} (c .if1 .taken))
 
-mul-architecture-of : tie.Need-mul-architecture-of
-mul-architecture-of c = search needs
-
 array-read-architecture-of : tie.Need-array-read-architecture-of
 array-read-architecture-of c = search needs
 
-mul-architecture-of-2 : tie.Need-mul-architecture-of-2
-mul-architecture-of-2 c = search needs
+cast-architecture-of : tie.Need-cast-architecture-of
+unfolding features allBytes
+cast-architecture-of c = let h = byte (rules features) (c .before .args .feature) refl in record { fits = omega arith }
 
 array-read-architecture-of-2 : tie.Need-array-read-architecture-of-2
 array-read-architecture-of-2 c = search needs
 
+cast-architecture-of-2 : tie.Need-cast-architecture-of-2
+unfolding features allBytes
+cast-architecture-of-2 c = let h = byte (sms features) (c .before .args .feature) refl in record { fits = omega arith }
+
 architecture-of-requires : tie.Need-architecture-of-requires
 architecture-of-requires c κs = search needs
 
-mul-t7 : tie.Need-mul-t7
-mul-t7 c = search needs
+array-read-t9 : tie.Need-array-read-t9
+array-read-t9 c = search needs
 
-array-read-t15 : tie.Need-array-read-t15
-array-read-t15 c = search needs
+cast-t15 : tie.Need-cast-t15
+unfolding features allBytes
+cast-t15 c = let h = byte (sinces features) (c .before .before .args .feature) refl in record { fits = omega arith }
 
 returns-2 : tie.Need-returns-2
 unfolding features requirementOf
@@ -43,11 +47,11 @@ feature-requirement-spec =
     tie.close
     (tie.spec
     returns
-    mul-architecture-of
     array-read-architecture-of
-    mul-architecture-of-2
+    cast-architecture-of
     array-read-architecture-of-2
+    cast-architecture-of-2
     architecture-of-requires
-    mul-t7
-    array-read-t15
+    array-read-t9
+    cast-t15
     returns-2)

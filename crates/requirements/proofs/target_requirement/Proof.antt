@@ -3,10 +3,11 @@ use borrow.Author.Needs.{needs}
 use native.Mathlib.Omega.{arith}
 use Prim.Native.Nat.{ℕ, _≤_, _-_}
 use mathlib.Core.Path.{_≡_, refl, sym, ap, _∙_}
+use mathlib.Core.List.{map}
 use lib.ListN.{drop, List·getD-map}
 use Rattle.requirements.specs.declared.Asked.the-variants.{Feature}
 use Rattle.requirements.specs.Target.{targets, findIn, smOf, featureOf, targetFeature}
-use Rattle.requirements.proofs.Tables.{noTarget, here, next}
+use Rattle.requirements.proofs.Tables.{noTarget, here, next, allBytes, byte}
 use Rattle.requirements.proofs.target_requirement.Statement.{statement}
 use Rattle.requirements.proofs.target_requirement.Tie as tie
 
@@ -20,17 +21,19 @@ loop-holds : tie.Need-loop-holds Inv-loop μ-loop
 unfolding targetFeature
 loop-holds c = (search needs, refl)
 
-mul-if1 : tie.Need-mul-if1 Inv-loop μ-loop
-mul-if1 c = search needs
-
 array-read-if1 : tie.Need-array-read-if1 Inv-loop μ-loop
 array-read-if1 c = search needs
 
-mul-t10 : tie.Need-mul-t10 Inv-loop μ-loop
-mul-t10 c = search needs
+cast-if1 : tie.Need-cast-if1 Inv-loop μ-loop
+unfolding targets allBytes
+cast-if1 c = let h = byte (map smOf targets) (c .before .loop .i) refl in record { fits = omega arith }
 
-array-read-t13 : tie.Need-array-read-t13 Inv-loop μ-loop
-array-read-t13 c = search needs
+array-read-t12 : tie.Need-array-read-t12 Inv-loop μ-loop
+array-read-t12 c = search needs
+
+cast-t13 : tie.Need-cast-t13 Inv-loop μ-loop
+unfolding targets allBytes
+cast-t13 c = let h = byte (map featureOf targets) (c .before .before .loop .i) refl in record { fits = omega arith }
 
 returns : tie.Need-returns Inv-loop μ-loop
 unfolding targets
@@ -71,10 +74,10 @@ target-requirement-spec =
     Inv-loop
     μ-loop
     loop-holds
-    mul-if1
     array-read-if1
-    mul-t10
-    array-read-t13
+    cast-if1
+    array-read-t12
+    cast-t13
     returns
     add-i
     loop-less
