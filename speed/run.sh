@@ -25,7 +25,7 @@ export CARGO_PROFILE_RELEASE_OVERFLOW_CHECKS
     { tail -n 20 "$home/rust.log"; exit 1; }
 
 # What the bench exports by now is measured.
-there='--cfg linked'
+there=
 for f in numbering rules; do
     grep -q "lavrindes_check_$f" target/native/libbench.a && there="$there --cfg $f"
 done
@@ -36,5 +36,5 @@ cpu=$(lscpu 2>/dev/null | sed -n 's/^Model name: *//p' | head -n 1)
 echo "$cpu, $(nproc) cores$how; $(rustc --version); $(rt version)"
 "$home/speed"
 if grep -q lavrindes_read_module target/native/libbench.a; then
-    rustc -O --edition 2021 --cfg linked -L target/native -l static=bench -o "$home/text" speed/text.rs && "$home/text" || exit 1
+    rustc -O --edition 2021 -L target/native -l static=bench -o "$home/text" speed/text.rs && "$home/text" || exit 1
 fi

@@ -1,4 +1,4 @@
 #!/bin/sh
 # tables of every fault, alone and in pairs, and random ones under a fresh seed, judged as a plain reading of the paper judges them
 . tests/rust/shared/against_rust.sh
-built table_cases && target/rust/table_cases "$@"
+both table_cases "$@"

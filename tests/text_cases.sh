@@ -1,4 +1,4 @@
 #!/bin/sh
 # damaged house texts and rule sheets, every size and one past, and random ones under a fresh seed, read as a plain reader of the paper reads them
 . tests/rust/shared/against_rust.sh
-built text_cases && target/rust/text_cases "$@"
+both text_cases "$@"

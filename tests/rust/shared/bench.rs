@@ -1,24 +1,21 @@
 // The bench's functions as its static library exports them: a slice is handed over as its address and length. A function that is not
-// called need not be there. The library is x86-64 code: on another processor the calls go through a pipe (served.rs), unless code for
-// that processor is linked.
+// called need not be there. The library that is linked is code for this processor; where BENCH_SERVED is set the calls go through a pipe
+// to the x86-64 code that is shipped (served.rs).
+use super::served::Call;
 use super::tables::{Answer, Tables};
 
 macro_rules! exported {
     ($($name:ident is $symbol:ident($($number:ident),*; $($read:ident: $r:ty),*; $($written:ident: $w:ty),*);)*) => {
-        #[cfg(any(target_arch = "x86_64", linked))]
         mod c {
             extern "C" {
                 $(pub fn $symbol($($number: u64,)* $($read: *const $r, _: usize,)* $($written: *mut $w, _: usize),*);)*
             }
         }
         $(
-            #[cfg(any(target_arch = "x86_64", linked))]
             pub fn $name($($number: u64,)* $($read: &[$r],)* $($written: &mut [$w]),*) {
-                unsafe { c::$symbol($($number,)* $($read.as_ptr(), $read.len(),)* $($written.as_mut_ptr(), $written.len()),*) }
-            }
-            #[cfg(not(any(target_arch = "x86_64", linked)))]
-            pub fn $name($($number: u64,)* $($read: &[$r],)* $($written: &mut [$w]),*) {
-                let mut call = super::served::Call::default();
+                let Some(mut call) = Call::where_served() else {
+                    return unsafe { c::$symbol($($number,)* $($read.as_ptr(), $read.len(),)* $($written.as_mut_ptr(), $written.len()),*) };
+                };
                 $(call.number($number);)*
                 $(call.slice($read);)*
                 $(call.slice($written);)*
@@ -43,6 +40,10 @@ exported! {
         ; text: u8; t: u64, v: u64, o: u32, a: u32, b: u32, r: u32, f: u32, l: u64, header: u64, n: u64, answer: u64);
     read_sheet is lavrindes_read_sheet(; text: u8; sheet: u64, answer: u64);
     read_places is lavrindes_read_back(; o: u32, b: u32, r: u32, f: u32, l: u64, n: u64, numbers: u64; places: u64, answer: u64);
+}
+
+pub fn is_served() -> bool {
+    Call::where_served().is_some()
 }
 
 // No answer has this code: what is left of it was not written.

@@ -6,7 +6,6 @@ pub mod damage;
 pub mod entry;
 pub mod large;
 pub mod rules;
-#[cfg(not(any(target_arch = "x86_64", linked)))]
 mod served;
 pub mod sheet;
 pub mod tables;

@@ -1,4 +1,4 @@
-// The bench behind a pipe (served.c), where this machine cannot link it: the command is in BENCH_SERVED.
+// The bench behind a pipe (served.c), where BENCH_SERVED has the command that runs it: the shipped code on a machine that cannot link it.
 use std::io::{Read, Write};
 use std::process::{Child, ChildStdin, ChildStdout, Command, Stdio};
 use std::sync::{Mutex, OnceLock};
@@ -9,15 +9,16 @@ struct Served {
     from: ChildStdout,
 }
 
-fn served() -> &'static Mutex<Served> {
-    static SERVED: OnceLock<Mutex<Served>> = OnceLock::new();
-    SERVED.get_or_init(|| {
-        let command = std::env::var("BENCH_SERVED").expect("BENCH_SERVED: how to run the bench on this machine");
+fn served() -> Option<&'static Mutex<Served>> {
+    static SERVED: OnceLock<Option<Mutex<Served>>> = OnceLock::new();
+    let start = || {
+        let command = std::env::var("BENCH_SERVED").ok()?;
         let mut words = command.split_whitespace();
         let mut child = Command::new(words.next().unwrap()).args(words).stdin(Stdio::piped()).stdout(Stdio::piped()).spawn().unwrap();
         let (to, from) = (child.stdin.take().unwrap(), child.stdout.take().unwrap());
-        Mutex::new(Served { _child: child, to, from })
-    })
+        Some(Mutex::new(Served { _child: child, to, from }))
+    };
+    SERVED.get_or_init(start).as_ref()
 }
 
 fn bytes<T>(xs: &[T]) -> &[u8] {
@@ -35,6 +36,9 @@ pub struct Call {
 }
 
 impl Call {
+    pub fn where_served() -> Option<Call> {
+        served().map(|_| Call::default())
+    }
     fn argument(&mut self, a: u64, b: u64) {
         self.sent.extend(a.to_le_bytes());
         self.sent.extend(b.to_le_bytes());
@@ -53,7 +57,7 @@ impl Call {
         let mut head = [0; 72];
         head[..name.len()].copy_from_slice(name.as_bytes());
         head[64..].copy_from_slice(&self.arguments.to_le_bytes());
-        let mut s = served().lock().unwrap();
+        let mut s = served().unwrap().lock().unwrap();
         s.to.write_all(&head).unwrap();
         s.to.write_all(&self.sent).unwrap();
         s.to.flush().unwrap();
