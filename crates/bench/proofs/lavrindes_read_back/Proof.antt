@@ -2,9 +2,8 @@
 use mathlib.Core.Path.{ap, _∙_}
 use Rattle.tables.specs.Tables.{nest}
 use Rattle.tables.specs.declared.Counts.{Counts}
-use Rattle.tables.specs.declared.Numbers.{Numbers}
 use Rattle.read_back.specs.Alone.{Outcome, readBackAlone}
-use Rattle.bench.specs.Exported.{told, noted}
+use Rattle.answers.proofs.Laws.{answer-noted}
 use borrow.Author.Needs.{needs}
 use Rattle.bench.proofs.lavrindes_read_back.Statement.{statement}
 use Rattle.bench.proofs.lavrindes_read_back.Tie as tie
@@ -15,11 +14,8 @@ counts-of-requires c κs = search needs
 read-back-requires : tie.Need-read-back-requires
 read-back-requires c κs = search needs
 
-answer-numbers-requires : tie.Need-answer-numbers-requires
-answer-numbers-requires c κs = search needs
-
-note-requires : tie.Need-note-requires
-note-requires c κs = search needs
+note-answer-requires : tie.Need-note-answer-requires
+note-answer-requires c κs = search needs
 
 same-length : tie.Need-same-length
 same-length c = search needs
@@ -29,12 +25,12 @@ same-length-2 c = search needs
 
 returns : tie.Need-returns
 returns c =
-    let p = c .before .before .before .before .before .before .before .before .before .before .before .before .before .before .before .before .before .before .before .args in
-    let q = c .before .before .before .before .before .before .before .read-back .ensures
-    ∙ ap (λ (m : Counts). readBackAlone (nest (p .o .now) (p .b .now) (p .r .now) (p .f .now) (p .l .now) m) (p .numbers .now) (p .places .now)) (c .before .before .before .before .before .before .before .before .before .counts-of .ensures) in (
-      ap (λ (w : Outcome). w .list) q,
-      c .before .before .note .ensures
-          ∙ ap (λ (k : Numbers). noted k (p .answer .now)) (c .before .before .before .before .answer-numbers .ensures ∙ ap (λ (w : Outcome). told (w .answer)) q),
+    let p = c .before .before .before .before .before .before .before .before .before .before .before .before .before .before .before .before .before .before .args in
+    let d : Counts → Outcome = λ m. readBackAlone (nest (p .o .now) (p .b .now) (p .r .now) (p .f .now) (p .l .now) m) (p .numbers .now) (p .places .now) in
+    let q = c .before .before .before .before .before .before .read-back .ensures in
+    let n = c .before .before .before .before .before .before .before .before .counts-of .ensures in (
+      ap (λ (w : Outcome). w .list) (q ∙ ap d n),
+      answer-noted (λ (m : Counts). d m .answer) (p .answer .now) (c .before .before .note-answer .ensures) (ap (λ (w : Outcome). w .answer) q) n,
     )
 
 pub lavrindes-read-back-spec : {M : Type 1} → statement M
@@ -43,8 +39,7 @@ lavrindes-read-back-spec =
     (tie.spec
     counts-of-requires
     read-back-requires
-    answer-numbers-requires
-    note-requires
+    note-answer-requires
     same-length
     same-length-2
     returns)

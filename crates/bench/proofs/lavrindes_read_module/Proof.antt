@@ -1,8 +1,5 @@
 -- `lavrindes_read_module`: the tables of a text, its header and counts, and the answer as three numbers. Assumes nothing.
-use mathlib.Core.Path.{ap, _∙_}
-use Rattle.house.specs.State.{State}
-use Rattle.bench.specs.Exported.{told, noted, headerNoted, countsNoted}
-use Rattle.bench.proofs.Laws.{left-as-read}
+use Rattle.answers.proofs.Laws.{reading-left}
 use borrow.Author.Needs.{needs}
 use Rattle.bench.proofs.lavrindes_read_module.Statement.{statement}
 use Rattle.bench.proofs.lavrindes_read_module.Tie as tie
@@ -49,17 +46,8 @@ same-length-11 c = search needs
 returns : tie.Need-returns
 returns c =
     let p = c .before .before .before .before .before .before .before .before .before .before .before .before .before .before .before .before .before .before .before .before .before .before .before .before .before .before .before .before .before .before .before .before .before .before .before .before .before .before .before .before .before .before .before .before .before .before .before .args in
-    let q = c .before .before .before .before .before .before .before .before .before .before .before .before .before .before .before .before .before .before .before .before .before .before .before .before .before .before .read-module .ensures in
-    let n = c .before .before .before .before .before .before .note-reading .ensures in (
-      left-as-read _ _ (ap (λ (w : State). w .tables) q),
-      (
-        n .0 ∙ ap (λ (w : State). headerNoted (w .version) (w .sm) (p .header .now)) q,
-        (
-          n .1 .0 ∙ ap (λ (w : State). countsNoted (w .tables .counts) (p .counts .now)) q,
-          n .1 .1 ∙ ap (λ (w : State). noted (told (w .answer)) (p .answer .now)) q,
-        ),
-      ),
-    )
+    let n = c .before .before .before .before .before .before .note-reading .ensures in
+    reading-left (p .header .now) (p .counts .now) (p .answer .now) (c .before .before .before .before .before .before .before .before .before .before .before .before .before .before .before .before .before .before .before .before .before .before .before .before .before .before .read-module .ensures) (n .0) (n .1 .0) (n .1 .1)
 
 pub lavrindes-read-module-spec : {M : Type 1} → statement M
 lavrindes-read-module-spec =

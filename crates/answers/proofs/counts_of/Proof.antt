@@ -1,7 +1,7 @@
 -- `counts_of`: the seven counts of a slice. Assumes nothing.
 use borrow.Author.Needs.{needs}
-use Rattle.bench.proofs.counts_of.Statement.{statement}
-use Rattle.bench.proofs.counts_of.Tie as tie
+use Rattle.answers.proofs.counts_of.Statement.{statement}
+use Rattle.answers.proofs.counts_of.Tie as tie
 
 at-u64-requires : tie.Need-at-u64-requires
 at-u64-requires c κs = search needs

@@ -1,7 +1,8 @@
 -- `note_counts`: the seven counts, where there is room. Assumes nothing.
+use Rattle.answers.specs.Noted.{countsNoted}
 use borrow.Author.Needs.{needs}
-use Rattle.bench.proofs.note_counts.Statement.{statement}
-use Rattle.bench.proofs.note_counts.Tie as tie
+use Rattle.answers.proofs.note_counts.Statement.{statement}
+use Rattle.answers.proofs.note_counts.Tie as tie
 
 put-u64-requires : tie.Need-put-u64-requires
 put-u64-requires c κs = search needs
@@ -28,6 +29,7 @@ same-length : tie.Need-same-length
 same-length c = search needs
 
 returns : tie.Need-returns
+unfolding countsNoted
 returns c =
     rw (
       c .before .before .put-u647 .ensures,

@@ -1,9 +1,9 @@
 -- `answer_numbers`: the numbers of a refusal, none where nothing is refused. Assumes nothing.
 use mathlib.Core.Path.{sym, ap}
-use Rattle.bench.specs.Exported.{told}
+use Rattle.answers.specs.Noted.{told}
 use borrow.Author.Needs.{needs}
-use Rattle.bench.proofs.answer_numbers.Statement.{statement}
-use Rattle.bench.proofs.answer_numbers.Tie as tie
+use Rattle.answers.proofs.answer_numbers.Statement.{statement}
+use Rattle.answers.proofs.answer_numbers.Tie as tie
 
 enum-told : tie.Need-enum-told
 enum-told c = search needs
@@ -15,9 +15,11 @@ numbers-of-requires : tie.Need-numbers-of-requires
 numbers-of-requires c κs = search needs
 
 returns : tie.Need-returns
+unfolding told
 returns c = sym (ap told (c .enum-told .given .1))
 
 returns-2 : tie.Need-returns-2
+unfolding told
 returns-2 c = search needs
 
 pub answer-numbers-spec : {M : Type 1} → statement M

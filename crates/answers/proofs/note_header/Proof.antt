@@ -1,7 +1,8 @@
 -- `note_header`: the version and the sm number, where there is room. Assumes nothing.
+use Rattle.answers.specs.Noted.{headerNoted}
 use borrow.Author.Needs.{needs}
-use Rattle.bench.proofs.note_header.Statement.{statement}
-use Rattle.bench.proofs.note_header.Tie as tie
+use Rattle.answers.proofs.note_header.Statement.{statement}
+use Rattle.answers.proofs.note_header.Tie as tie
 
 put-u64-requires : tie.Need-put-u64-requires
 put-u64-requires c κs = search needs
@@ -13,6 +14,7 @@ same-length : tie.Need-same-length
 same-length c = search needs
 
 returns : tie.Need-returns
+unfolding headerNoted
 returns c =
     rw (
       c .before .before .put-u642 .ensures,

@@ -1,7 +1,8 @@
 -- `note`: the three numbers, where there is room. Assumes nothing.
+use Rattle.answers.specs.Noted.{noted}
 use borrow.Author.Needs.{needs}
-use Rattle.bench.proofs.note.Statement.{statement}
-use Rattle.bench.proofs.note.Tie as tie
+use Rattle.answers.proofs.note.Statement.{statement}
+use Rattle.answers.proofs.note.Tie as tie
 
 put-u64-requires : tie.Need-put-u64-requires
 put-u64-requires c κs = search needs
@@ -16,6 +17,7 @@ same-length : tie.Need-same-length
 same-length c = search needs
 
 returns : tie.Need-returns
+unfolding noted
 returns c = rw (c .before .before .put-u643 .ensures, c .before .before .before .before .before .before .put-u642 .ensures, c .before .before .before .before .before .before .before .before .before .before .put-u64 .ensures)
 
 pub note-spec : {M : Type 1} → statement M

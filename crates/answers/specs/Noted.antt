@@ -29,24 +29,24 @@ targetOf version sm = record { version = version; sm = sm }
 abbrev pub none : Numbers
 none = record { code = 0; id = 0; detail = 0 }
 
-abbrev pub told : Answer → Numbers
+unfoldable pub told : Answer → Numbers
 told Accepted = none
 told (Refused r) = numbersOf r
 
 -- numbers that are written are accepted
-abbrev pub toldOfNumbers : Numbered → Numbers
+unfoldable pub toldOfNumbers : Numbered → Numbers
 toldOfNumbers (Written count) = none
 toldOfNumbers (No r) = numbersOf r
 
 -- code, id and detail, where there is room for them
-abbrev pub noted : Numbers → List ℕ → List ℕ
+unfoldable pub noted : Numbers → List ℕ → List ℕ
 noted n out = set (set (set out 0 (n .code)) 1 (n .id)) 2 (n .detail)
 
 -- version and sm number, where there is room for them
-abbrev pub headerNoted : ℕ → ℕ → List ℕ → List ℕ
+unfoldable pub headerNoted : ℕ → ℕ → List ℕ → List ℕ
 headerNoted version sm out = set (set out 0 version) 1 sm
 
 -- the seven counts in the tables' order, where there is room for them
-abbrev pub countsNoted : Counts → List ℕ → List ℕ
+unfoldable pub countsNoted : Counts → List ℕ → List ℕ
 countsNoted n out =
     set (set (set (set (set (set (set out 0 (n .types)) 1 (n .values)) 2 (n .operations)) 3 (n .attributes)) 4 (n .blocks)) 5 (n .regions)) 6 (n .functions)

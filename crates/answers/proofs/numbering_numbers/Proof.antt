@@ -1,9 +1,9 @@
 -- `numbering_numbers`: the numbers of a refusal, none where numbers are written. Assumes nothing.
 use mathlib.Core.Path.{sym, ap}
-use Rattle.bench.specs.Exported.{toldOfNumbers}
+use Rattle.answers.specs.Noted.{toldOfNumbers}
 use borrow.Author.Needs.{needs}
-use Rattle.bench.proofs.numbering_numbers.Statement.{statement}
-use Rattle.bench.proofs.numbering_numbers.Tie as tie
+use Rattle.answers.proofs.numbering_numbers.Statement.{statement}
+use Rattle.answers.proofs.numbering_numbers.Tie as tie
 
 enum-told : tie.Need-enum-told
 enum-told c = search needs
@@ -15,9 +15,11 @@ numbers-of-requires : tie.Need-numbers-of-requires
 numbers-of-requires c κs = search needs
 
 returns : tie.Need-returns
+unfolding toldOfNumbers
 returns c = sym (ap toldOfNumbers (c .enum-told .given .1))
 
 returns-2 : tie.Need-returns-2
+unfolding toldOfNumbers
 returns-2 c = search needs
 
 pub numbering-numbers-spec : {M : Type 1} → statement M
