@@ -5,48 +5,11 @@
 mod shared;
 use shared::{bench, cases, rules::*, sheet, tables::*};
 
-// Reasons that an opcode cannot give, though its arm can: docs/DIFFERENCES.md has the argument for each.
-fn possible(opcode: u32, reason: u64) -> bool {
-    !matches!(
-        (opcode, reason),
-        (7, 6) | (8, 5) | (55, 8..=12) | (56, 7..=12) | (96, 7) | (26, 3) | (44 | 84, 5 | 6) | (99, 10)
-    )
-}
-
-// How many `fail`s each arm has, in the order of ARMS.
-const REASONS: [u64; 15] = [3, 8, 8, 1, 4, 4, 12, 5, 1, 6, 1, 2, 1, 13, 0];
-const FLUSHED: u64 = 99;
-const LEAVES: u64 = 12;
-
 struct Case {
     x: Tables,
     version: u64,
     sm: u64,
     sheet: sheet::Sheet,
-}
-
-// Opcodes by how many reasons they have, FToF by its pairs of kinds; now and then one that has no rule.
-fn opcode(r: &mut Random) -> u32 {
-    let weight = |code: u32, reasons: u64| if code == 30 { 30 } else { reasons + 2 };
-    let arms = ARMS.iter().zip(REASONS);
-    let weights = arms.flat_map(|((_, opcodes), reasons)| opcodes.iter().map(move |code| (*code, weight(*code, reasons))));
-    let mut k = r.below(weights.clone().map(|w| w.1).sum());
-    for (code, weight) in weights {
-        if k < weight {
-            return code;
-        }
-        k -= weight;
-    }
-    unreachable!()
-}
-
-fn near_op(r: &mut Random) -> Op {
-    let code = opcode(r);
-    let mut op = near(code, r);
-    for _ in 0..r.one_of(&[0, 0, 0, 1, 1, 2]) {
-        spoil(&mut op, r);
-    }
-    op
 }
 
 // One or a few operations that are reached, and some that are not.
@@ -77,7 +40,7 @@ fn told(case: &Case, line: &str) -> Vec<(u32, Option<u64>)> {
     let code = |i: u64| x.o[i as usize * 16];
     match (field(1), field(2), field(3)) {
         (Some(11), Some(i), Some(reason)) => vec![(code(i), Some(reason))],
-        (Some(12), Some(i), _) => vec![(code(i), Some(LEAVES + 100))],
+        (Some(12), Some(i), _) => vec![(code(i), Some(LEAVES))],
         (Some(16), ..) => vec![],
         _ if line.ends_with("|ok") => x.walk_order().into_iter().map(|i| (code(i), None)).collect(),
         _ => panic!("not a line of the Rust's: {line}"),
@@ -93,13 +56,12 @@ fn cover(seed: u64, count: usize, lines: &str, crates_own: bool) -> bool {
         told(&draw(&mut r, crates_own), &line).into_iter().for_each(|k| *seen.entry(k).or_insert(0u64) += 1);
     }
     let mut missing = 0;
-    for ((arm, opcodes), reasons) in ARMS.iter().zip(REASONS) {
+    for (k, (arm, opcodes)) in ARMS.iter().enumerate() {
         for code in *opcodes {
             print!("{arm:16} {code:3}  ok {:<6}", seen.get(&(*code, None)).unwrap_or(&0));
-            let leaves = (arm == &"shape").then_some(LEAVES + 100);
-            for reason in (1..=reasons).chain(leaves).chain([FLUSHED]) {
+            for reason in reasons_of(k) {
                 let times = *seen.get(&(*code, Some(reason))).unwrap_or(&0);
-                let name = if reason == LEAVES + 100 { "code 12".to_string() } else { reason.to_string() };
+                let name = if reason == LEAVES { "code 12".to_string() } else { reason.to_string() };
                 match (possible(*code, reason), times) {
                     (false, 0) => {}
                     (true, 1..) => print!("  {name}: {times}"),

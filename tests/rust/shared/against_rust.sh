@@ -1,10 +1,10 @@
 # Building a test with the bench, and comparing it with the running Rust.
 . tests/rust/shared/native.sh
 
-# built NAME: builds tests/rust/NAME.rs with the bench compiled for this processor, as target/rust/NAME.
+# built NAME [FILE]: builds tests/rust/NAME.rs, or FILE, with the bench compiled for this processor, as target/rust/NAME.
 built() {
     mkdir -p target/rust
-    native_archive && rustc -O --edition 2021 -L target/native -l static=bench -o "target/rust/$1" "tests/rust/$1.rs"
+    native_archive && rustc -O --edition 2021 -L target/native -l static=bench -o "target/rust/$1" "${2:-tests/rust/$1.rs}"
 }
 
 # shipped COMMAND..: runs a test that was built with the shipped archive in place of the native one. Its x86-64 code is run behind a pipe,

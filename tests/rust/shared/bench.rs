@@ -36,6 +36,12 @@ exported! {
         version, sm; t: u64, v: u64, o: u32, a: u32, b: u32, r: u32, f: u32, l: u64, n: u64, sheet: u64; answer: u64);
     check_numbering is lavrindes_check_numbering(
         ; t: u64, v: u64, o: u32, a: u32, b: u32, r: u32, f: u32, l: u64, n: u64, sheet: u64; numbers: u64, lengths: u64, answer: u64);
+    check_all is lavrindes_check_all(
+        version, sm; t: u64, v: u64, o: u32, a: u32, b: u32, r: u32, f: u32, l: u64, n: u64, sheet: u64;
+        numbers: u64, lengths: u64, answer: u64);
+    check_texts is lavrindes_check_texts(
+        ; sheet_text: u8, text: u8; t: u64, v: u64, o: u32, a: u32, b: u32, r: u32, f: u32, l: u64, sheet: u64,
+        numbers: u64, lengths: u64, answer: u64);
     read_module is lavrindes_read_module(
         ; text: u8; t: u64, v: u64, o: u32, a: u32, b: u32, r: u32, f: u32, l: u64, header: u64, n: u64, answer: u64);
     read_sheet is lavrindes_read_sheet(; text: u8; sheet: u64, answer: u64);
@@ -76,6 +82,12 @@ pub fn rules(x: &Tables, version: u64, sm: u64, sheet: &[u64]) -> Answer {
 pub fn numbering(x: &Tables, sheet: &[u64], numbers: &mut [u64], lengths: &mut [u64]) -> Answer {
     let mut answer = UNSAID;
     check_numbering(&x.t, &x.v, &x.o, &x.a, &x.b, &x.r, &x.f, &x.l, &x.n, sheet, numbers, lengths, &mut answer);
+    answer
+}
+
+pub fn all(x: &Tables, version: u64, sm: u64, sheet: &[u64], numbers: &mut [u64], lengths: &mut [u64]) -> Answer {
+    let mut answer = UNSAID;
+    check_all(version, sm, &x.t, &x.v, &x.o, &x.a, &x.b, &x.r, &x.f, &x.l, &x.n, sheet, numbers, lengths, &mut answer);
     answer
 }
 

@@ -46,6 +46,25 @@ pub const ARMS: [(&str, &[u32]); 15] = [
     ("no rule", &[3, 22, 29, 38, 74]),
 ];
 
+// How many `fail`s each arm has, in the order of ARMS.
+pub const REASONS: [u64; 15] = [3, 8, 8, 1, 4, 4, 12, 5, 1, 6, 1, 2, 1, 13, 0];
+pub const FLUSHED: u64 = 99;
+// Code 12 among the reasons.
+pub const LEAVES: u64 = 112;
+
+// Reasons that an opcode cannot give, though its arm can: docs/DIFFERENCES.md has the argument for each.
+pub fn possible(opcode: u32, reason: u64) -> bool {
+    !matches!(
+        (opcode, reason),
+        (7, 6) | (8, 5) | (55, 8..=12) | (56, 7..=12) | (96, 7) | (26, 3) | (44 | 84, 5 | 6) | (99, 10)
+    )
+}
+
+// The reasons of an opcode's arm, with code 12 in the shape arm and the closing rule.
+pub fn reasons_of(arm: usize) -> Vec<u64> {
+    (1..=REASONS[arm]).chain((arm == 0).then_some(LEAVES)).chain([FLUSHED]).collect()
+}
+
 pub const TOKEN: u64 = 0;
 pub const TILE: u64 = 1;
 pub const POINTER: u64 = 2;
@@ -66,16 +85,16 @@ const FLUSH: u32 = 13;
 // The bits of each kind in the crate.
 const BITS: [i64; 16] = [1, 4, 8, 16, 32, 64, 16, 16, 32, 32, 64, 8, 8, 8, 4, 8];
 
-fn ty(form: u64, kind: u64, dims: &[i64]) -> Ty {
+pub fn ty(form: u64, kind: u64, dims: &[i64]) -> Ty {
     Ty { form, kind, pointer: 0, padded: 0, sparse: -1, dims: dims.to_vec() }
 }
-fn tile(kind: u64, dims: &[i64]) -> Ty {
+pub fn tile(kind: u64, dims: &[i64]) -> Ty {
     ty(TILE, kind, dims)
 }
-fn token() -> Ty {
+pub fn token() -> Ty {
     ty(TOKEN, 0, &[])
 }
-fn attribute(name: u32, form: u32, numbers: &[i64], absent: u32) -> Attribute {
+pub fn attribute(name: u32, form: u32, numbers: &[i64], absent: u32) -> Attribute {
     Attribute { name, form, numbers: numbers.iter().map(|n| *n as u64).collect(), absent }
 }
 fn integer(name: u32, n: i64) -> Attribute {
@@ -84,7 +103,7 @@ fn integer(name: u32, n: i64) -> Attribute {
 fn dims(r: &mut Random, rank: u64) -> Vec<i64> {
     (0..rank).map(|_| r.one_of(&[1, 2, 3, 4, 8, 16])).collect()
 }
-fn some_dims(r: &mut Random) -> Vec<i64> {
+pub fn some_dims(r: &mut Random) -> Vec<i64> {
     let rank = r.below(4);
     dims(r, rank)
 }
@@ -93,7 +112,7 @@ fn between(r: &mut Random, low: i64, high: i64) -> i64 {
     low + r.below((high - low + 1) as u64) as i64
 }
 // Mostly one of these, else any kind.
-fn kind(r: &mut Random, mostly: &[u64]) -> u64 {
+pub fn kind(r: &mut Random, mostly: &[u64]) -> u64 {
     if r.once_in(4) { r.below(16) } else { r.one_of(mostly) }
 }
 const KINDS: [u64; 16] = [0, 1, 2, 3, 4, 5, 6, 7, 8, 9, 10, 11, 12, 13, 14, 15];
@@ -110,6 +129,30 @@ fn edge_dims(r: &mut Random) -> Vec<i64> {
 }
 
 // ---- one operation of each arm
+
+// Opcodes by how many reasons they have, FToF by its pairs of kinds; now and then one that has no rule.
+fn weighted(r: &mut Random) -> u32 {
+    let weight = |code: u32, reasons: u64| if code == 30 { 30 } else { reasons + 2 };
+    let arms = ARMS.iter().zip(REASONS);
+    let weights = arms.flat_map(|((_, opcodes), reasons)| opcodes.iter().map(move |code| (*code, weight(*code, reasons))));
+    let mut k = r.below(weights.clone().map(|w| w.1).sum());
+    for (code, weight) in weights {
+        if k < weight {
+            return code;
+        }
+        k -= weight;
+    }
+    unreachable!()
+}
+
+pub fn near_op(r: &mut Random) -> Op {
+    let code = weighted(r);
+    let mut op = near(code, r);
+    for _ in 0..r.one_of(&[0, 0, 0, 1, 1, 2]) {
+        spoil(&mut op, r);
+    }
+    op
+}
 
 pub fn near(opcode: u32, r: &mut Random) -> Op {
     let mut op = Op { opcode, ..Op::default() };

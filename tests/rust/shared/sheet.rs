@@ -13,6 +13,24 @@ pub fn empty() -> Sheet {
     vec![0; 320]
 }
 
+// "Widths are 0 to 8 bytes and counts 0 to 8,192": what is left to ask of a sheet that was read.
+pub fn in_range(sheet: &[u64]) -> bool {
+    (0..105).all(|k| sheet[k * 2 + 1] <= 8192) && sheet[WIDTHS..WIDTHS + 16].iter().all(|w| *w <= 8)
+}
+
+// Whether modes, contained kinds, widths and the tile flag are those of the crate.
+pub fn has_the_crates_rules(sheet: &[u64]) -> bool {
+    sheet[MODES..=THROUGH] == of_the_crate()[MODES..=THROUGH]
+}
+
+pub fn width(sheet: &[u64], kind: usize) -> u64 {
+    sheet[WIDTHS + kind]
+}
+
+pub fn set_width(sheet: &mut Sheet, kind: usize, bytes: u64) {
+    sheet[WIDTHS + kind] = bytes;
+}
+
 pub fn fix(sheet: &mut Sheet, opcode: usize, count: u64) {
     sheet[opcode * 2] = 1;
     sheet[opcode * 2 + 1] = count;

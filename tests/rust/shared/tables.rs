@@ -163,7 +163,12 @@ impl Tables {
         None
     }
     pub fn judge(&self) -> Answer {
+        self.judge_with(true)
+    }
+    // With a rule sheet: one that is out of range is asked after the tables' own ranges, as table 8.
+    pub fn judge_with(&self, good_sheet: bool) -> Answer {
         let ranged = self.ranged(&[0, 1, 2, 3, 4, 5, 6], |table, i| self.good(table, i));
+        let ranged = ranged.or((!good_sheet).then_some([1, 8, 0]));
         ranged.or_else(|| self.twice()).or_else(|| self.deep()).or_else(|| self.values()).unwrap_or(ACCEPTED)
     }
     // What reading back asks: nothing of values, types, opcodes and attributes.
