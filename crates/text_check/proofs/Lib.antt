@@ -1,3 +1,2 @@
 pub mod Low
 pub mod Ways
-pub mod Cards
