@@ -1,7 +1,7 @@
 // Module texts read by the bench and by the tests' plain reader, in one run, on the same bytes: 1 to 64 KiB, every kind of line.
-#[path = "../tests/rust/shared/mod.rs"]
+#[path = "../rust/shared/mod.rs"]
 mod shared;
-#[path = "../tests/rust/shared/reader.rs"]
+#[path = "../rust/shared/reader.rs"]
 mod reader;
 mod timing;
 use reader::{read_module, Module, MOST_ENTRIES};

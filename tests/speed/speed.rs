@@ -1,6 +1,6 @@
 // The Rust's functions and the bench's, timed in one run on the same modules: tables and vectors are filled before. Every module passes,
 // so both do all their work. The bench's times hold its table checks too, since each part called alone asks them.
-#[path = "../tests/rust/shared/mod.rs"]
+#[path = "../rust/shared/mod.rs"]
 mod shared;
 mod timing;
 use cutile_ir::bytecode::BytecodeVersion;
@@ -8,7 +8,7 @@ use cutile_ir::capabilities::TargetCapabilities;
 use cutile_ir::ir::{BlockId, Location, Module, OpId, TileElementType, Type};
 use cutile_ir::requirements::{attribute_feature, opcode_requirement, scalar_requirement, target_requirement};
 use cutile_ir::toolchain::{oracle::parse_module, verify_operation};
-use shared::{bench, cases, large::nested_module, rules::*, tables::*};
+use shared::{bench, cases, large::{nested, nested_module}, rules::*, tables::*};
 use std::hint::black_box;
 use timing::times;
 
@@ -126,31 +126,59 @@ fn scope(x: &Tables) {
     let m = rust_module(x);
     let dominance = times([&mut || m.verify_dominance().is_ok(), &mut || bench::dominance(black_box(x)) == ACCEPTED, &mut || checked(x)]);
     told("dominance", x, dominance);
-    #[cfg(numbering)]
-    {
-        let sheet = shared::sheet::empty();
-        let (mut numbers, mut lengths) = (vec![0; 8192], vec![0; 64]);
-        let mut ours = || bench::numbering(black_box(x), &sheet, &mut numbers, &mut lengths) == ACCEPTED;
-        let numbering = times([&mut || m.verify_bytecode_indices().is_ok(), &mut ours, &mut || checked(x)]);
-        told("numbering", x, numbering);
-        told("dominance and numbering", x, [0, 1, 2].map(|k| dominance[k] + numbering[k]));
-    }
+    let sheet = shared::sheet::empty();
+    let (mut numbers, mut lengths) = (vec![0; 8192], vec![0; 64]);
+    let mut ours = || bench::numbering(black_box(x), &sheet, &mut numbers, &mut lengths) == ACCEPTED;
+    let numbering = times([&mut || m.verify_bytecode_indices().is_ok(), &mut ours, &mut || checked(x)]);
+    told("numbering", x, numbering);
+    told("dominance and numbering", x, [0, 1, 2].map(|k| dominance[k] + numbering[k]));
 }
 
 fn requirements_and_rules(x: &Tables) {
     let (m, target) = (rust_module(x), capabilities());
     let mut ours = || bench::requirements(black_box(x), 4, SM) == ACCEPTED;
     told("requirements", x, times([&mut || rust_requirements(&m, &target), &mut ours, &mut || checked(x)]));
-    #[cfg(rules)]
-    {
-        let sheet = shared::sheet::of_the_crate();
-        let mut ours = || bench::rules(black_box(x), 4, SM, &sheet) == ACCEPTED;
-        told("operation rules", x, times([&mut || rust_rules(&m, &target), &mut ours, &mut || checked(x)]));
-    }
+    let sheet = shared::sheet::of_the_crate();
+    let mut ours = || bench::rules(black_box(x), 4, SM, &sheet) == ACCEPTED;
+    told("operation rules", x, times([&mut || rust_rules(&m, &target), &mut ours, &mut || checked(x)]));
+}
+
+// All of the Rust's functions, in the order of the full check.
+fn rust_verdict(m: &Module, target: &TargetCapabilities) -> bool {
+    m.verify_dominance().is_ok() && m.verify_bytecode_indices().is_ok() && rust_requirements(m, target) && rust_rules(m, target)
+}
+
+// Tables to verdict and text to verdict: the full check, and the Rust's functions with the parse of `oracle` before them.
+fn verdicts(x: &Tables) {
+    let (text, target) = (x.text(4, SM), capabilities());
+    assert!(text.len() <= 65536, "the text is within its limit");
+    let m = rust_module(x);
+    let sheet = shared::sheet::empty();
+    let (mut numbers, mut lengths) = (vec![0; 8192], vec![0; 64]);
+    let mut ours = || bench::all(black_box(x), 4, SM, &sheet, &mut numbers, &mut lengths) == ACCEPTED;
+    told("tables to verdict", x, times([&mut || rust_verdict(&m, &target), &mut ours, &mut || checked(x)]));
+    let cells = |k: usize| SIZES[k] as usize * WIDTHS[k];
+    let (mut t, mut v, mut l) = (vec![0; cells(TYPES)], vec![0; cells(VALUES)], vec![0; 8192]);
+    let [mut o, mut a, mut b, mut r, mut f] = [OPERATIONS, ATTRIBUTES, BLOCKS, REGIONS, FUNCTIONS].map(|k| vec![0; cells(k)]);
+    let mut read = vec![0; 320];
+    let mut ours = || {
+        let mut answer = [1; 3];
+        bench::check_texts(
+            b"sheet\t1\n", black_box(text.as_bytes()), &mut t, &mut v, &mut o, &mut a, &mut b, &mut r, &mut f, &mut l, &mut read,
+            &mut numbers, &mut lengths, &mut answer,
+        );
+        answer == ACCEPTED
+    };
+    let mut rust = || rust_verdict(&parse_module(black_box(text.as_bytes())).unwrap().module, &target);
+    told("text to verdict", x, times([&mut rust, &mut ours, &mut || checked(x)]));
 }
 
 fn main() {
     let mut r = cases::seeded(1);
+    println!("nested at most 32 deep, one result and mostly one operand an operation:");
+    for operations in [10, 100, 128, 1000, 2048] {
+        verdicts(&nested(operations, 32.min(operations / 3), 1, &mut r));
+    }
     println!("nested 32 deep, two results and mostly one operand an operation:");
     for operations in [100, 128, 256, 512, 1024, 2048] {
         scope(&nested_module(operations, 32, &mut r));
