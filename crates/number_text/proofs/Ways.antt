@@ -1,12 +1,12 @@
 -- One line: its tag, and the ways through the functions that judge it and write its numbers.
-use Prim.Native.Nat.{ℕ, suc, _+_, _-_, _^_, _≤_, _<_}
-use mathlib.Core.Bool.{Bool, true, false, _&&_, cond}
+use Prim.Native.Nat.{ℕ, suc, _+_, _≤_, _<_}
+use mathlib.Core.Bool.{Bool, true, false, _&&_}
 use mathlib.Core.List.{List, [], _∷_}
-use mathlib.Core.Option.{Option, some, none}
+use mathlib.Core.Option.{some}
 use mathlib.Core.Path.{_≡_, refl, sym, _∙_, ap}
 use native.Mathlib.Omega.{arith}
 use native.Mathlib.Numerals.{add-one}
-use lib.Dec.{eqb, ltb}
+use lib.Dec.{eqb}
 use lib.ListN.{length, getD, set}
 use lib.Seq.{sets, length-sets}
 use borrow.Author.Tests.{eq-eqb, ne-eqb, lt-ltb, le-ltb}
@@ -78,9 +78,6 @@ module _ (line : ℕ) (fs : List (List ℕ)) (n : ℕ) (en : n ≡ length fs) wh
   stands-line h = rw (← en, eq-eqb n 1 h)
 
 -- ---- `n`
-
-zeros-as : (l m : List ℕ) → length l ≡ length m → zeros l ≡ zeros m
-zeros-as l m e = rw e
 
 module _ (functions at : ℕ) (fs : List (List ℕ)) (l : List ℕ) (n : ℕ) (en : n ≡ length fs) where
   pub list-fields : (n ≡ 3 → ⊥) → kept (Bad 200) l ≡ listInto at (listLine functions fs) l

@@ -26,9 +26,6 @@ use Rattle.number_text.proofs.Ways.{impossible}
 
 -- ---- numbers in front of what a lent list held
 
-over-take : (l : List ℕ) (i : ℕ) → i ≤ length l → over (take i l) l ≡ l
-over-take l i h = ap (λ (k : ℕ). take i l ++ drop k l) (length-take-le i l h) ∙ take-append-drop i l
-
 sets-over : (l : List ℕ) (i : ℕ) (xs : List ℕ) → i + length xs ≤ length l → sets l i xs ≡ over (take i l ++ xs) l
 sets-over l i xs h =
     let many : length (take i l ++ xs) ≡ i + length xs =

@@ -1,7 +1,7 @@
 -- A text of numbers, line by line: an optional first line `ok`, then one `n` line a function. "The first bad line answers, by its leftmost
 -- bad field." A line reaching past the most bytes is 1 with 0, 0 before its other faults; one without faults that passes 64 functions or
 -- 8,192 numbers is 1 with 0, 0 too. A text without an `n` line, an empty one as well, has no functions.
-use Prim.Native.Nat.{ℕ, suc, _+_, _-_}
+use Prim.Native.Nat.{ℕ, suc, _+_}
 use mathlib.Core.Bool.{Bool, _||_, cond}
 use mathlib.Core.List.{List, [], _∷_, _++_}
 use lib.Dec.{eqb, ltb}
