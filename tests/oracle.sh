@@ -1,6 +1,6 @@
 #!/bin/sh
 # the full check and each part alone answer of random modules under a fresh seed as the Rust does, and the recorded ones stand
-# `sh tests/oracle.sh SEED COUNT` runs a seed again, and `sh tests/oracle.sh record` says the recorded list anew.
+# `sh tests/oracle.sh SEED COUNT` runs a seed again, and `sh tests/oracle.sh record` makes the recorded list again.
 . tests/rust/shared/against_rust.sh
 program=target/rust/oracle_cases list=tests/recorded/full_check.txt rust=target/oracle/target/release/oracle
 built oracle_cases tests/oracle/main.rs || exit 1

@@ -28,7 +28,7 @@ pub struct Cover {
     depths: BTreeMap<u64, u64>,
     forms: BTreeMap<(u64, u64), u64>, // type forms and kinds
     attributes: BTreeMap<(u64, u64), u64>,
-    sizes: [u64; 7],
+    full_tables: [u64; 7], // accepted over tables with as many entries as a table takes
     marked: BTreeMap<Mark, [u64; 2]>, // set aside, and how often the Rust then said otherwise
 }
 
@@ -55,7 +55,9 @@ impl Cover {
         *self.full.entry((code, kind)).or_default() += 1;
         *self.numbering.entry(numbers(said("num"))[0]).or_default() += 1;
         let Some(q) = asked else { return };
-        (0..7).for_each(|k| self.sizes[k] = self.sizes[k].max(q.x.n[k]));
+        if said("all").starts_with("ok") {
+            (0..7).for_each(|k| self.full_tables[k] += (q.x.n[k] == SIZES[k]) as u64);
+        }
         for (part, at) in [("ops", 0), ("full", 1)] {
             if let [code @ (11 | 12), i, reason] = numbers(said(part)) {
                 let reason = if code == 12 { LEAVES } else { reason };
@@ -101,40 +103,51 @@ impl Cover {
             seen[1] += (rust.skipped() || parts.iter().any(|part| alone(part) && other(part))) as u64;
         }
     }
-    // The table, and what is missing from it.
-    pub fn table(&self, listed: &[String]) -> (String, Vec<String>) {
-        let (mut out, mut missing) = (String::new(), vec![]);
-        let mut row = |what: String, times: u64, wanted: bool| {
-            out += &format!("{what:40} {times}\n");
-            if wanted && times == 0 {
-                missing.push(what);
-            }
-        };
-        CODES.iter().for_each(|(code, kind)| row(format!("full check: code {code}, {kind}"), *self.full.get(&(*code, *kind)).unwrap_or(&0), true));
-        row("full check: code 8, which cannot be".into(), *self.full.get(&(8, 0)).unwrap_or(&0), false);
-        [0, 6, 7, 8].iter().for_each(|code| row(format!("numbering alone: code {code}"), *self.numbering.get(code).unwrap_or(&0), true));
+    // The rows of the table: what, how often, and whether it has to occur.
+    fn rows(&self, listed: &[String]) -> Vec<(String, u64, bool)> {
+        fn of<K: Ord>(map: &BTreeMap<K, u64>, key: &K) -> u64 {
+            map.get(key).copied().unwrap_or(0)
+        }
+        let mut rows: Vec<(String, u64, bool)> = vec![];
+        let codes = CODES.iter().map(|k| (format!("full check: code {}, {}", k.0, k.1), of(&self.full, k), true));
+        rows.extend(codes.chain([("full check: code 8, which cannot be".into(), of(&self.full, &(8, 0)), false)]));
+        rows.extend([0, 6, 7, 8].map(|code| (format!("numbering alone: code {code}"), of(&self.numbering, &code), true)));
+        rows.extend(self.reason_rows());
+        rows.extend((0..105).map(|code| (format!("accepted: opcode {code}"), of(&self.passed, &code), true)));
+        rows.extend(FEATURES.iter().map(|k| (format!("feature {}, code {}", k.0, k.1), of(&self.features, k), true)));
+        rows.extend((0..=32).map(|d| (format!("accepted: depth {d}"), of(&self.depths, &d), true)));
+        let kinds = (1..7).flat_map(|form| (0..16).map(move |kind| (form, kind))).chain([(0, 0)]);
+        rows.extend(kinds.map(|k| {
+            (format!("accepted: type form {}, kind {}", k.0, k.1), of(&self.forms, &k), k.0 < 2 || k.1 == 4)
+        }));
+        let names = (0..9).flat_map(|form| (0..14).map(move |name| (form, name)));
+        rows.extend(names.map(|k| (format!("accepted: attribute form {}, name {}", k.0, k.1), of(&self.attributes, &k), k.1 == 0)));
+        rows.extend((0..7).map(|k| (format!("accepted with {} entries in table {}", SIZES[k], k + 1), self.full_tables[k], k == 1 || k == 2)));
+        for tag in listed {
+            let [aside, otherwise] = self.marked.get(&tag[..]).copied().unwrap_or_default();
+            rows.push((format!("set aside: {tag}"), aside, true));
+            rows.push((format!("set aside: {tag}, and the Rust differs"), otherwise, true));
+        }
+        rows
+    }
+    fn reason_rows(&self) -> Vec<(String, u64, bool)> {
+        let mut rows = vec![];
         for (k, (arm, opcodes)) in ARMS.iter().enumerate() {
             for code in *opcodes {
                 for reason in reasons_of(k).into_iter().filter(|n| possible(*code, *n)) {
                     let [alone, full] = self.reasons.get(&(*code, reason)).copied().unwrap_or_default();
-                    row(format!("{arm}: opcode {code}, reason {reason}, alone"), alone, true);
-                    row(format!("{arm}: opcode {code}, reason {reason}, full check"), full, false);
+                    let what = if reason == LEAVES { "code 12".to_string() } else { format!("reason {reason}") };
+                    rows.push((format!("{arm}: opcode {code}, {what}, alone"), alone, true));
+                    rows.push((format!("{arm}: opcode {code}, {what}, full check"), full, false));
                 }
             }
         }
-        (0..105).for_each(|code| row(format!("accepted: opcode {code}"), *self.passed.get(&code).unwrap_or(&0), true));
-        FEATURES.iter().for_each(|(f, code)| row(format!("feature {f}, code {code}"), *self.features.get(&(*f, *code)).unwrap_or(&0), true));
-        (0..=32).for_each(|d| row(format!("accepted: depth {d}"), *self.depths.get(&d).unwrap_or(&0), true));
-        let kinds = (1..7).flat_map(|form| (0..16).map(move |kind| (form, kind))).chain([(0, 0)]);
-        kinds.for_each(|(form, kind)| row(format!("accepted: type form {form}, kind {kind}"), *self.forms.get(&(form, kind)).unwrap_or(&0), form == 1 || kind == 4 || form == 0));
-        let names = (0..9).flat_map(|form| (0..14).map(move |name| (form, name)));
-        names.for_each(|(form, name)| row(format!("accepted: attribute form {form}, name {name}"), *self.attributes.get(&(form, name)).unwrap_or(&0), name == 0));
-        (0..7).for_each(|k| row(format!("largest table {}, of {}", k + 1, SIZES[k]), self.sizes[k], true));
-        for tag in listed {
-            let [aside, otherwise] = self.marked.get(&tag[..]).copied().unwrap_or_default();
-            row(format!("set aside: {tag}"), aside, true);
-            row(format!("set aside: {tag}, and the Rust differs"), otherwise, true);
-        }
-        (out, missing)
+        rows
+    }
+    // The table, and what is missing from it.
+    pub fn table(&self, listed: &[String]) -> (String, Vec<String>) {
+        let rows = self.rows(listed);
+        let table = rows.iter().map(|(what, times, _)| format!("{what:52} {times}\n")).collect();
+        (table, rows.into_iter().filter(|(_, times, wanted)| *wanted && *times == 0).map(|row| row.0).collect())
     }
 }

@@ -116,8 +116,8 @@ fn run(seed: u64, count: usize, program: &str, broken: Break) -> Result<Cover, (
             cover.case(plain.asked.as_ref(), ours);
             if let Some(q) = &plain.asked {
                 let (marks, rust) = (marks(q), rust::parsed(&said));
-                let noted = rust.0.contains_key("note");
-                assert_eq!(noted, marks.contains(&"two-pointer-attributes") && !rust.skipped(), "seed {seed}: what the Rust notes of pointer attributes");
+                let two = marks.contains(&"two-pointer-attributes") && !rust.skipped();
+                assert_eq!(rust.0.contains_key("note"), two, "seed {seed}: what the Rust notes of pointer attributes");
                 cover.marked(&marks, ours, &due(&case, &plain, &rust, &marks), &rust, q);
             }
             done += 1;
