@@ -39,6 +39,11 @@ sheet=sheets/cutile-ir-0.4.0.sheet
 [ -s "$sheet" ] || { sheet=$home/plain.sheet && printf 'sheet\t1\n' >"$sheet"; }
 python3 fuzz/seeds.py "$home/first" "$home/seeds" "$home/listed" "$sheet" "$home/rules.texts" $(ls examples/*.module 2>/dev/null) || exit 1
 
+# A slice that is said to be longer than it is has to be found.
+"$clang" -O1 -g -Wno-unused-function -fsanitize=address,fuzzer -DTARGET=read_sheet_bytes -DLIE=1 -o "$home/lie" fuzz/bench.c "$home/bench.o" || exit 1
+"$home/lie" -runs=1000 -artifact_prefix="$home/lie-" >"$home/lie.log" 2>&1
+grep -q 'AddressSanitizer: heap-buffer-overflow' "$home/lie.log" || { echo "fuzz: a write past a slice is not found" >&2; exit 1; }
+
 bad=0
 cpu=$(lscpu 2>/dev/null | sed -n 's/^Model name: *//p' | head -n 1)
 echo "$(uname -m), $cpu, $(nproc) cores; $("$clang" --version | head -n 1); $(rt version)"
