@@ -39,6 +39,9 @@ fn without_lines(text: &[u8], size: usize) -> Vec<Vec<u8>> {
 fn smaller(case: &Case, size: usize) -> Vec<Case> {
     let mut all: Vec<Case> = without_lines(&case.sheet, size).into_iter().map(|sheet| Case { sheet, ..case.clone() }).collect();
     let Some(m) = &case.model else {
+        // A damaged text that reads is written anew from its tables, whose rows can then be dropped.
+        let m = Plain::of(case).asked.map(|q| Model::of(&q.x, q.version, q.sm));
+        all.extend(m.map(|m| Case { text: m.text().into(), model: Some(m), ..case.clone() }));
         all.extend(without_lines(&case.text, size).into_iter().map(|text| Case { text, ..case.clone() }));
         return all;
     };
