@@ -86,9 +86,9 @@ numbers-full : map (λ xs. stepNumbers (listed (state 2 9 (replicate 8190 0) (81
 unfolding stepNumbers
 numbers-full = refl
 
--- a line whose LF is byte 1,048,576 is read; one byte more is 1 before its other faults, and so is a last line without LF
-bytes-full : map (λ at. stepNumbers (lineOf (state 1 at [] []) (bytes "n\t0\t1"))) (1048570 ∷ 1048571 ∷ [])
-    ++ map (λ at. stepNumbers (lastOf (state 1 at [] []) (bytes "n\t0\t1"))) (1048571 ∷ 1048572 ∷ [])
+-- a line whose LF is byte 262,144 is read; one byte more is 1 before its other faults, and so is a last line without LF
+bytes-full : map (λ at. stepNumbers (lineOf (state 1 at [] []) (bytes "n\t0\t1"))) (262138 ∷ 262139 ∷ [])
+    ++ map (λ at. stepNumbers (lastOf (state 1 at [] []) (bytes "n\t0\t1"))) (262139 ∷ 262140 ∷ [])
     ≡ three 0 1 1 ∷ three 1 0 0 ∷ three 15 1 200 ∷ three 1 0 0 ∷ []
 unfolding stepNumbers split onFirst nth lineOf lastOf taken listLine listOf written decimalOf isDecimal allDigits valueAfter unsignedOf
 bytes-full = refl

@@ -224,18 +224,18 @@ module _ (line p end functions count : ℕ) (ns ls : List ℕ) (hn : 8192 ≤ le
 
 -- ---- what follows the last LF
 module _ (line start end functions count : ℕ) where
-  pub last-far : 1048576 < end → Refused (OutOfRange 0 0) ≡ lastAnswer line start end functions count
+  pub last-far : 262144 < end → Refused (OutOfRange 0 0) ≡ lastAnswer line start end functions count
   unfolding lastAnswer
-  last-far h = rw (lt-ltb 1048576 end h)
+  last-far h = rw (lt-ltb 262144 end h)
 
-  module _ (h : end ≤ 1048576) where
+  module _ (h : end ≤ 262144) where
     pub last-some : start < end → Refused (NotInForm line 200) ≡ lastAnswer line start end functions count
     unfolding lastAnswer
-    last-some k = rw (le-ltb 1048576 end h, lt-ltb start end k)
+    last-some k = rw (le-ltb 262144 end h, lt-ltb start end k)
 
     pub last-none : end ≤ start → Read count functions ≡ lastAnswer line start end functions count
     unfolding lastAnswer
-    last-none k = rw (le-ltb 1048576 end h, le-ltb start end k)
+    last-none k = rw (le-ltb 262144 end h, le-ltb start end k)
 
 -- ---- one line after another
 lines-more : (s : State) (l t : List ℕ) (ls : List (List ℕ)) → ls ≡ l ∷ split 10 t → linesOf s ls ≡ onward (lineOf s l) (λ x. linesOf x (split 10 t))
@@ -274,7 +274,7 @@ module _ (line p e functions count : ℕ) (ns ls ns₀ ls₀ text : List ℕ) (h
 
   last-is : (l : List ℕ) → settled (lastAnswer line p (p + length l) functions count) ns ls ≡ ended (lastOf stand l) ns₀ ls₀
   unfolding lastAnswer lastOf
-  last-is [] = by (ltb 1048576 (p + 0)) (le-ltb p (p + 0) (omega arith))
+  last-is [] = by (ltb 262144 (p + 0)) (le-ltb p (p + 0) (omega arith))
     where
       by : (t : Bool) → ltb p (p + 0) ≡ false
           → settled (cond t (Refused (OutOfRange 0 0)) (cond (ltb p (p + 0)) (Refused (NotInForm line 200)) (Read count functions))) ns ls
@@ -282,7 +282,7 @@ module _ (line p e functions count : ℕ) (ns ls ns₀ ls₀ text : List ℕ) (h
       by true z = none-left (OutOfRange 0 0)
       by false z = rw z all-held
   last-is (b ∷ l) =
-      by (ltb 1048576 (p + length (b ∷ l))) (eqb (length (b ∷ l)) 0) (lt-ltb p (p + length (b ∷ l)) (omega arith)) (ne-eqb (length (b ∷ l)) 0 (λ h. omega arith))
+      by (ltb 262144 (p + length (b ∷ l))) (eqb (length (b ∷ l)) 0) (lt-ltb p (p + length (b ∷ l)) (omega arith)) (ne-eqb (length (b ∷ l)) 0 (λ h. omega arith))
     where
       by : (t u : Bool) → ltb p (p + length (b ∷ l)) ≡ true → u ≡ false
           → settled (cond t (Refused (OutOfRange 0 0)) (cond (ltb p (p + length (b ∷ l))) (Refused (NotInForm line 200)) (Read count functions))) ns ls
@@ -304,23 +304,23 @@ module _ (line p e functions count : ℕ) (ns ls ns₀ ls₀ text : List ℕ) (h
     counted : p + suc (length this) ≡ e + 1
     counted = let n = this-long in omega arith
 
-    line-far : 1048576 ≤ e → lineOf stand this ≡ refuses (OutOfRange 0 0)
+    line-far : 262144 ≤ e → lineOf stand this ≡ refuses (OutOfRange 0 0)
     unfolding lineOf
-    line-far n = rw (counted, lt-ltb 1048576 (e + 1) (omega arith))
+    line-far n = rw (counted, lt-ltb 262144 (e + 1) (omega arith))
 
-    pub at-far : 1048576 ≤ e → settled (Refused (OutOfRange 0 0)) ns ls ≡ ended (linesOf stand (split 10 (drop p text))) ns₀ ls₀
+    pub at-far : 262144 ≤ e → settled (Refused (OutOfRange 0 0)) ns ls ≡ ended (linesOf stand (split 10 (drop p text))) ns₀ ls₀
     at-far n =
         none-left (OutOfRange 0 0)
         ∙ sym (ap (λ (x : Step). ended x ns₀ ls₀) (lines-are ∙ ap (λ (x : Step). onward x (λ y. linesOf y (split 10 (drop (e + 1) text)))) (line-far n)))
 
-    module _ (n : e < 1048576) (m : List ℕ) (em : m ≡ this) (w : Lists) (ns′ ls′ : List ℕ)
+    module _ (n : e < 262144) (m : List ℕ) (em : m ≡ this) (w : Lists) (ns′ ls′ : List ℕ)
         (ew : settled w ns′ ls′ ≡ takenInto line functions count (split 9 m) ns ls) where
       told : settled w ns′ ls′ ≡ takenInto line functions count (split 9 this) ns ls
       told = ew ∙ ap (λ (x : List ℕ). takenInto line functions count (split 9 x) ns ls) em
 
       near : lineOf stand this ≡ taken stand (e + 1) (split 9 this)
       unfolding lineOf
-      near = rw (counted, le-ltb 1048576 (e + 1) (omega arith))
+      near = rw (counted, le-ltb 262144 (e + 1) (omega arith))
 
       next-is : (x : Step) → taken stand (e + 1) (split 9 this) ≡ x
           → linesOf stand (split 10 (drop p text)) ≡ onward x (λ y. linesOf y (split 10 (drop (e + 1) text)))

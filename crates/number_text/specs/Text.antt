@@ -19,7 +19,7 @@ use Rattle.number_text.specs.declared.Lists.the-variants.{Read, Refused}
 use Rattle.number_text.specs.Line.{field, okStands, listLine, zeros}
 
 abbrev pub maxBytes : ℕ
-maxBytes = 1048576
+maxBytes = 262144
 
 -- where a reader stands: the number of this line, the bytes before it, the numbers so far, and how many each function so far has
 pub record State : Type 0 where

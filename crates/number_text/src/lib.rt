@@ -13,7 +13,7 @@ use lines::Width;
 use tables::Refusal;
 
 // The most bytes of such a text: room for every number at its widest.
-pub const MAX_BYTES: u64 = 1048576;
+pub const MAX_BYTES: u64 = 262144;
 
 const MAX_64: u64 = 18446744073709551615;
 
