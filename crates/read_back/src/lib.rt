@@ -376,7 +376,7 @@ fn read_functions(
 }
 
 // What is said of all numbers, and the places in the list as far as it has room.
-fn read_all(
+pub fn read_all(
     o: &[u32],
     b: &[u32],
     r: &[u32],
