@@ -1,4 +1,5 @@
 pub mod Each
+pub mod Marks
 pub mod Row
 pub mod Told
 pub mod Laws

@@ -3,14 +3,18 @@ ghost use mathlib.Core.Path.{_≡_};
 ghost use mathlib.Core.List.{[]};
 ghost use Rattle.tables.specs.Tables.{lent, attributes};
 ghost use Rattle.tables.specs.Answer.{each};
+ghost use Rattle.requirements.specs.Kind.{kindFeature};
 ghost use Rattle.capabilities.specs.Ask.{ask, kindAsked, attributeAsked, operationAsks, capabilities};
-ghost use Rattle.capabilities.specs.Part.{ofAttributes, ofOperands, ofTypes, attributeAsks, operandAsks, resultAsks};
+ghost use Rattle.capabilities.specs.Part.{Knows, ofAttributes, ofOperands, ofTypes, attributeAsks, operandAsks, resultAsks};
 use requirements::Asked;
 use requirements::Met;
 use tables::Answer;
 use tables::Counts;
 use tables::Refusal;
 use tables::Target;
+
+// How many element kinds there are.
+const KINDS: u64 = 16;
 
 // What the target says to a feature that an operation asks for.
 pub fn ask(g: Target, operation: u64, asked: Asked) -> Answer
@@ -29,14 +33,40 @@ pub fn ask(g: Target, operation: u64, asked: Asked) -> Answer
     }
 }
 
-// What a type's element kind asks for: a token has none.
-fn kind_asked(t: &[u64], n: Counts, id: u64) -> Asked
-    ensures { λ r. ⌜ r ≡ kindAsked (ofTypes (now (t .entry)) n) id ⌝ }
+// 1 where the target has the feature of a kind.
+fn known(g: Target, kind: u64) -> u64
+    ensures { λ r. ⌜ (r ≡ 1 → ask g 0 (kindFeature kind) ≡ Answer.Accepted) ⌝ }
+{
+    match ask(g, 0, requirements::scalar_requirement(kind)) {
+        Answer::Accepted => 1,
+        Answer::Refused(_) => 0,
+    }
+}
+
+// The kinds whose feature the target has are marked, once: most questions are about these. Any other is asked as every feature is.
+fn mark_kinds(g: Target, kinds: &mut [u64])
+    ensures { λ _. ⌜ (Knows g (now (kinds .entry)) → Knows g (now (kinds .exit))) ⌝ }
+{
+    let mut kind = 0;
+    while kind < KINDS {
+        let mark = known(g, kind);
+        cells::put_u64(kinds, kind, mark);
+        kind += 1;
+    }
+}
+
+// What the target says to a type's element kind: a token has none.
+fn ask_kind(g: Target, t: &[u64], n: Counts, operation: u64, kinds: &[u64], id: u64) -> Answer
+    ensures { λ r. ⌜ (Knows g (now (kinds .entry)) → r ≡ ask g operation (kindAsked (ofTypes (now (t .entry)) n) id)) ⌝ }
 {
     if tables::type_form(t, n, id) == 0 {
-        return Asked::Nothing;
+        return Answer::Accepted;
     }
-    requirements::scalar_requirement(tables::type_kind(t, n, id))
+    let kind = tables::type_kind(t, n, id);
+    if cells::at_u64(kinds, kind) == 1 {
+        return Answer::Accepted;
+    }
+    ask(g, operation, requirements::scalar_requirement(kind))
 }
 
 // What an attribute of an operation asks for.
@@ -80,14 +110,15 @@ fn ask_operands(
     v: &[u64],
     n: Counts,
     operation: u64,
+    kinds: &[u64],
     operands: &[u64],
 ) -> Answer
-    ensures { λ r. ⌜ r ≡ each (operandAsks g (ofOperands (now (t .entry)) (now (v .entry)) n) operation) (now (operands .entry)) ⌝ }
+    ensures { λ r. ⌜ (Knows g (now (kinds .entry)) → r ≡ each (operandAsks g (ofOperands (now (t .entry)) (now (v .entry)) n) operation) (now (operands .entry))) ⌝ }
 {
     let mut k = 0;
     while k < operands.len() {
-        let asked = kind_asked(t, n, tables::value_type(v, n, operands[k]));
-        if let Answer::Refused(why) = ask(g, operation, asked) {
+        let id = tables::value_type(v, n, operands[k]);
+        if let Answer::Refused(why) = ask_kind(g, t, n, operation, kinds, id) {
             return Answer::Refused(why);
         }
         k += 1;
@@ -96,13 +127,19 @@ fn ask_operands(
 }
 
 // The kinds of an operation's results, in order.
-fn ask_results(g: Target, t: &[u64], n: Counts, operation: u64, types: &[u64]) -> Answer
-    ensures { λ r. ⌜ r ≡ each (resultAsks g (ofTypes (now (t .entry)) n) operation) (now (types .entry)) ⌝ }
+fn ask_results(
+    g: Target,
+    t: &[u64],
+    n: Counts,
+    operation: u64,
+    kinds: &[u64],
+    types: &[u64],
+) -> Answer
+    ensures { λ r. ⌜ (Knows g (now (kinds .entry)) → r ≡ each (resultAsks g (ofTypes (now (t .entry)) n) operation) (now (types .entry))) ⌝ }
 {
     let mut k = 0;
     while k < types.len() {
-        let asked = kind_asked(t, n, types[k]);
-        if let Answer::Refused(why) = ask(g, operation, asked) {
+        if let Answer::Refused(why) = ask_kind(g, t, n, operation, kinds, types[k]) {
             return Answer::Refused(why);
         }
         k += 1;
@@ -111,7 +148,7 @@ fn ask_results(g: Target, t: &[u64], n: Counts, operation: u64, types: &[u64]) -
 }
 
 // All that an operation asks for: its opcode, its attributes, the kinds of its operands, then of its results.
-pub fn operation_asks(
+fn operation_asks(
     g: Target,
     t: &[u64],
     v: &[u64],
@@ -119,9 +156,10 @@ pub fn operation_asks(
     a: &[u32],
     l: &[u64],
     n: Counts,
+    kinds: &[u64],
     operation: u64,
 ) -> Answer
-    ensures { λ r. ⌜ r ≡ operationAsks g (lent (now (t .entry)) (now (v .entry)) (now (o .entry)) (now (a .entry)) [] [] [] (now (l .entry)) n) operation ⌝ }
+    ensures { λ r. ⌜ (Knows g (now (kinds .entry)) → r ≡ operationAsks g (lent (now (t .entry)) (now (v .entry)) (now (o .entry)) (now (a .entry)) [] [] [] (now (l .entry)) n) operation) ⌝ }
 {
     let asked = requirements::opcode_requirement(tables::opcode(o, n, operation));
     if let Answer::Refused(why) = ask(g, operation, asked) {
@@ -131,10 +169,59 @@ pub fn operation_asks(
         return Answer::Refused(why);
     }
     let operands = tables::operands(o, l, n, operation);
-    if let Answer::Refused(why) = ask_operands(g, t, v, n, operation, operands) {
+    if let Answer::Refused(why) = ask_operands(g, t, v, n, operation, kinds, operands) {
         return Answer::Refused(why);
     }
-    ask_results(g, t, n, operation, tables::result_types(o, l, n, operation))
+    ask_results(
+        g,
+        t,
+        n,
+        operation,
+        kinds,
+        tables::result_types(o, l, n, operation),
+    )
+}
+
+// What the operations ask for, in the order given.
+fn ask_operations(
+    g: Target,
+    t: &[u64],
+    v: &[u64],
+    o: &[u32],
+    a: &[u32],
+    l: &[u64],
+    n: Counts,
+    kinds: &[u64],
+    order: &[u64],
+) -> Answer
+    ensures { λ r. ⌜ (Knows g (now (kinds .entry)) → r ≡ each (operationAsks g (lent (now (t .entry)) (now (v .entry)) (now (o .entry)) (now (a .entry)) [] [] [] (now (l .entry)) n)) (now (order .entry))) ⌝ }
+{
+    let mut k = 0;
+    while k < order.len() {
+        if let Answer::Refused(why) = operation_asks(g, t, v, o, a, l, n, kinds, order[k]) {
+            return Answer::Refused(why);
+        }
+        k += 1;
+    }
+    Answer::Accepted
+}
+
+// The same with the kinds marked first.
+fn ask_marked(
+    g: Target,
+    t: &[u64],
+    v: &[u64],
+    o: &[u32],
+    a: &[u32],
+    l: &[u64],
+    n: Counts,
+    order: &[u64],
+) -> Answer
+    ensures { λ r. ⌜ r ≡ each (operationAsks g (lent (now (t .entry)) (now (v .entry)) (now (o .entry)) (now (a .entry)) [] [] [] (now (l .entry)) n)) (now (order .entry)) ⌝ }
+{
+    let mut kinds = [0u64; 16];
+    mark_kinds(g, &mut kinds);
+    ask_operations(g, t, v, o, a, l, n, &kinds, order)
 }
 
 // What the target asks for itself, then what the operations do, in the order given.
@@ -153,12 +240,5 @@ pub fn check_capabilities(
     if let Answer::Refused(why) = ask(g, 0, requirements::target_requirement(g.sm)) {
         return Answer::Refused(why);
     }
-    let mut k = 0;
-    while k < order.len() {
-        if let Answer::Refused(why) = operation_asks(g, t, v, o, a, l, n, order[k]) {
-            return Answer::Refused(why);
-        }
-        k += 1;
-    }
-    Answer::Accepted
+    ask_marked(g, t, v, o, a, l, n, order)
 }

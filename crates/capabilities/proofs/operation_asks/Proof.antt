@@ -5,7 +5,7 @@ use Rattle.tables.specs.Answer.{each}
 use Rattle.tables.specs.Tables.{lent, opcode, operands, resultTypes, attributes}
 use Rattle.requirements.specs.Opcode.{opcodeFeature}
 use Rattle.capabilities.specs.Ask.{ask, kindAsked, attributeAsked, operationAsks}
-use Rattle.capabilities.specs.Part.{attributeAsks, operandAsks, resultAsks}
+use Rattle.capabilities.specs.Part.{Knows, attributeAsks, operandAsks, resultAsks}
 use Rattle.capabilities.proofs.Each.{ends, goes-on}
 use borrow.Author.Needs.{needs}
 use Rattle.capabilities.proofs.operation_asks.Statement.{statement}
@@ -25,44 +25,44 @@ enum-known-why c = search needs
 
 -- what each of the four is asked over the tables lent
 of-opcode : (c : tie.After-ask)
-    → let e = c .before .before .before .before .before .before .before .before .args in
+    → let e = c .before .before .before .before .before .before .before .before .before .args in
     let x = lent (e .t .now) (e .v .now) (e .o .now) (e .a .now) [] [] [] (e .l .now) (e .n) in
     c .ask .result ≡ ask (e .g) (e .operation) (opcodeFeature (opcode x (e .operation)))
 of-opcode c =
-    let e = c .before .before .before .before .before .before .before .before .args in
+    let e = c .before .before .before .before .before .before .before .before .before .args in
     c .ask .ensures
     ∙ ap (ask (e .g) (e .operation)) (c .before .opcode-requirement .ensures ∙ ap opcodeFeature (c .before .before .opcode .ensures))
 
 of-attributes : (c : tie.After-ask-attributes)
-    → let e = c .before .before .before .before .before .before .before .before .before .before .before .args in
+    → let e = c .before .before .before .before .before .before .before .before .before .before .before .before .args in
     let x = lent (e .t .now) (e .v .now) (e .o .now) (e .a .now) [] [] [] (e .l .now) (e .n) in
     c .ask-attributes .result ≡ each (attributeAsks (e .g) x (e .operation)) (attributes x (e .operation))
 unfolding attributeAsked
 of-attributes c = c .ask-attributes .ensures
 
 of-operands : (c : tie.After-ask-operands)
-    → let e = c .before .before .before .before .before .before .before .before .before .before .before .before .before .before .before .args in
+    → let e = c .before .before .before .before .before .before .before .before .before .before .before .before .before .before .before .before .args in
     let x = lent (e .t .now) (e .v .now) (e .o .now) (e .a .now) [] [] [] (e .l .now) (e .n) in
-    c .ask-operands .result ≡ each (operandAsks (e .g) x (e .operation)) (operands x (e .operation))
+    Knows (e .g) (e .kinds .now) → c .ask-operands .result ≡ each (operandAsks (e .g) x (e .operation)) (operands x (e .operation))
 unfolding kindAsked
-of-operands c =
-    let e = c .before .before .before .before .before .before .before .before .before .before .before .before .before .before .before .args in
+of-operands c know =
+    let e = c .before .before .before .before .before .before .before .before .before .before .before .before .before .before .before .before .args in
     let x = lent (e .t .now) (e .v .now) (e .o .now) (e .a .now) [] [] [] (e .l .now) (e .n) in
-    c .ask-operands .ensures ∙ ap (each (operandAsks (e .g) x (e .operation))) (c .before .operands .ensures)
+    c .ask-operands .ensures know ∙ ap (each (operandAsks (e .g) x (e .operation))) (c .before .operands .ensures)
 
 of-results : (c : tie.After-ask-results)
-    → let e = c .before .before .before .before .before .before .before .before .before .before .before .before .before .before .before .before .before .before .before .args in
+    → let e = c .before .before .before .before .before .before .before .before .before .before .before .before .before .before .before .before .before .before .before .before .args in
     let x = lent (e .t .now) (e .v .now) (e .o .now) (e .a .now) [] [] [] (e .l .now) (e .n) in
-    c .ask-results .result ≡ each (resultAsks (e .g) x (e .operation)) (resultTypes x (e .operation))
+    Knows (e .g) (e .kinds .now) → c .ask-results .result ≡ each (resultAsks (e .g) x (e .operation)) (resultTypes x (e .operation))
 unfolding kindAsked
-of-results c =
-    let e = c .before .before .before .before .before .before .before .before .before .before .before .before .before .before .before .before .before .before .before .args in
+of-results c know =
+    let e = c .before .before .before .before .before .before .before .before .before .before .before .before .before .before .before .before .before .before .before .before .args in
     let x = lent (e .t .now) (e .v .now) (e .o .now) (e .a .now) [] [] [] (e .l .now) (e .n) in
-    c .ask-results .ensures ∙ ap (each (resultAsks (e .g) x (e .operation))) (c .before .result-types .ensures)
+    c .ask-results .ensures know ∙ ap (each (resultAsks (e .g) x (e .operation))) (c .before .result-types .ensures)
 
 returns : tie.Need-returns
 unfolding operationAsks
-returns c = ends _ _ _ (of-opcode (c .before .before .before)) (c .before .why .given .1)
+returns c know = ends _ _ _ (of-opcode (c .before .before .before)) (c .before .why .given .1)
 
 enum-told : tie.Need-enum-told
 enum-told c = search needs
@@ -75,7 +75,7 @@ enum-known-why-2 c = search needs
 
 returns-2 : tie.Need-returns-2
 unfolding operationAsks
-returns-2 c =
+returns-2 c know =
     let second = c .before .before .before in
     let first = second .before in
     ends _ _ _ (of-attributes second) (c .before .why2 .given .1)
@@ -95,11 +95,11 @@ enum-known-why-3 c = search needs
 
 returns-3 : tie.Need-returns-3
 unfolding operationAsks
-returns-3 c =
+returns-3 c know =
     let third = c .before .before .before in
     let second = third .before .before in
     let first = second .before .before .before in
-    ends _ _ _ (of-operands third) (c .before .why3 .given .1)
+    ends _ _ _ (of-operands third know) (c .before .why3 .given .1)
     ∙ goes-on _ _ _ (of-attributes (second .before .before)) (second .enum-told2 .given .1)
     ∙ goes-on _ _ _ (of-opcode (first .before .before)) (first .enum-told .given .1)
 
@@ -114,12 +114,12 @@ ask-results-requires c κs = search needs
 
 returns-4 : tie.Need-returns-4
 unfolding operationAsks
-returns-4 c =
+returns-4 c know =
     let third = c .before .before in
     let second = third .before .before .before .before in
     let first = second .before .before .before in
-    of-results c
-    ∙ goes-on _ _ _ (of-operands (third .before .before)) (third .enum-told3 .given .1)
+    of-results c know
+    ∙ goes-on _ _ _ (of-operands (third .before .before) know) (third .enum-told3 .given .1)
     ∙ goes-on _ _ _ (of-attributes (second .before .before)) (second .enum-told2 .given .1)
     ∙ goes-on _ _ _ (of-opcode (first .before .before)) (first .enum-told .given .1)
 
