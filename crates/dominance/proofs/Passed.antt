@@ -43,6 +43,9 @@ module _ (x : Tables) (e : tableChecks x ≡ Accepted) where
   pub room : x .counts .values ≤ length {A = ℕ} (replicate maxValues 0)
   room = omega (arith, length-replicate {A = ℕ} maxValues 0, passes-1 x e .values-fit)
 
+  pub few-room : x .counts .values ≤ 512 → x .counts .values ≤ length {A = ℕ} (replicate 512 0)
+  few-room h = omega (arith, length-replicate {A = ℕ} 512 0, h)
+
   -- the cells from zeros
   pub tells : (bases claims : List ℕ) → bases ≡ basesAfter x (replicate maxOperations 0) → claims ≡ claimsAfter x bases (replicate maxEntries 0)
       → Tells x bases claims

@@ -6,7 +6,7 @@ ghost use Prim.Native.Nat.{ℕ, _≤_};
 ghost use lib.ListN.{length};
 ghost use Rattle.tables.specs.Tables.{lent};
 ghost use Rattle.table_checks.specs.Checks.{tableChecks};
-ghost use Rattle.values.specs.Claims.{numberOf};
+ghost use Rattle.values.specs.Claims.{numberOf, Filled};
 ghost use Rattle.nesting.specs.Live.{toList};
 ghost use Rattle.nesting.specs.Shape.{visit};
 ghost use Rattle.nesting.specs.Dominance.{judge, judged, dominance as visibleAll};
@@ -14,10 +14,12 @@ ghost use Rattle.scope.specs.Stack.{seeAll, Shows};
 ghost use Rattle.dominance.specs.Alone.{dominanceAlone};
 ghost use Rattle.dominance.specs.Walk.{Tells, Level, Went, after, regionJudged, blockJudged, operationJudged, regionsJudged, functionJudged, wholeJudged};
 use scope::Scope;
-use table_checks::Checked;
 use tables::Answer;
 use tables::Counts;
 use tables::Refusal;
+
+// As many values as a small stack takes.
+const FEW_VALUES: u64 = 512;
 
 // The scope after a visit, or the first operand that is not visible.
 enum Walked {
@@ -314,6 +316,45 @@ fn visit_functions(
     Answer::Accepted
 }
 
+// The walk over few values, where 1 to 4 passed and the cells hold the claims: a small stack is soon cleared.
+fn walk_few(
+    o: &[u32],
+    b: &[u32],
+    r: &[u32],
+    f: &[u32],
+    l: &[u64],
+    n: Counts,
+    bases: &[u64],
+    claims: &[u64],
+) -> Answer
+    ensures { λ w. ⌜ ((t v a : List ℕ) → let x = lent t v (now (o .entry)) a (now (b .entry)) (now (r .entry)) (now (f .entry)) (now (l .entry)) n in tableChecks x ≡ Answer.Accepted → Filled x (now (bases .entry)) (now (claims .entry)) → n .values ≤ 512 → w ≡ visibleAll x) ⌝ }
+{
+    let mut dense = [0u64; 512];
+    let mut sparse = [0u64; 512];
+    visit_functions(o, b, r, f, l, n, bases, claims, &mut dense, &mut sparse)
+}
+
+// The walk, where 1 to 4 passed and the cells hold the claims.
+fn walk_claimed(
+    o: &[u32],
+    b: &[u32],
+    r: &[u32],
+    f: &[u32],
+    l: &[u64],
+    n: Counts,
+    bases: &[u64],
+    claims: &[u64],
+) -> Answer
+    ensures { λ w. ⌜ ((t v a : List ℕ) → let x = lent t v (now (o .entry)) a (now (b .entry)) (now (r .entry)) (now (f .entry)) (now (l .entry)) n in tableChecks x ≡ Answer.Accepted → Filled x (now (bases .entry)) (now (claims .entry)) → w ≡ visibleAll x) ⌝ }
+{
+    if n.values <= FEW_VALUES {
+        return walk_few(o, b, r, f, l, n, bases, claims);
+    }
+    let mut dense = [0u64; 4096];
+    let mut sparse = [0u64; 4096];
+    visit_functions(o, b, r, f, l, n, bases, claims, &mut dense, &mut sparse)
+}
+
 // For a caller that has asked 1 to 4.
 pub fn after_checks(
     v: &[u64],
@@ -330,9 +371,7 @@ pub fn after_checks(
     values::fill_bases(o, l, n, &mut bases);
     let mut claims = [0u64; 8192];
     values::fill_claims(o, l, v, n, &bases, &mut claims);
-    let mut dense = [0u64; 4096];
-    let mut sparse = [0u64; 4096];
-    visit_functions(o, b, r, f, l, n, &bases, &claims, &mut dense, &mut sparse)
+    walk_claimed(o, b, r, f, l, n, &bases, &claims)
 }
 
 // The first operand that is not visible, after 1 to 4.
@@ -349,10 +388,10 @@ pub fn dominance(
 ) -> Answer
     ensures { λ w. ⌜ w ≡ dominanceAlone (lent (now (t .entry)) (now (v .entry)) (now (o .entry)) (now (a .entry)) (now (b .entry)) (now (r .entry)) (now (f .entry)) (now (l .entry)) n) ⌝ }
 {
-    // The walk order is not asked for.
-    let mut order = [0u64; 0];
-    match table_checks::check_tables(t, v, o, a, b, r, f, l, n, &mut order) {
-        Checked::Fine(_) => after_checks(v, o, b, r, f, l, n),
-        Checked::Refused(why) => Answer::Refused(why),
+    let mut bases = [0u64; 2048];
+    let mut claims = [0u64; 8192];
+    match table_checks::claim_tables(t, v, o, a, b, r, f, l, n, &mut bases, &mut claims) {
+        Answer::Accepted => walk_claimed(o, b, r, f, l, n, &bases, &claims),
+        Answer::Refused(why) => Answer::Refused(why),
     }
 }

@@ -47,14 +47,22 @@ module _ (x : Tables) (e : tableChecks x ≡ Accepted) where
       omega (arith, s, passes-1 x e .entries-fit)
 
   -- a stack with an entry for each value, and lists of the full sizes
-  pub room : (numbers lengths : List ℕ) → maxEntries ≤ length numbers → maxFunctions ≤ length lengths
-      → Room x (replicate maxValues 0) (replicate maxValues 0) numbers lengths
-  room numbers lengths hn hl = record {
-    dense = omega (arith, length-replicate {A = ℕ} maxValues 0, passes-1 x e .values-fit);
-    sparse = omega (arith, length-replicate {A = ℕ} maxValues 0, passes-1 x e .values-fit);
+  room-of : (k : ℕ) → x .counts .values ≤ k → (numbers lengths : List ℕ) → maxEntries ≤ length numbers → maxFunctions ≤ length lengths
+      → Room x (replicate k 0) (replicate k 0) numbers lengths
+  room-of k h numbers lengths hn hl = record {
+    dense = omega (arith, length-replicate {A = ℕ} k 0, h);
+    sparse = omega (arith, length-replicate {A = ℕ} k 0, h);
     all = omega (arith, all-fit x e, hn);
     each = omega (arith, passes-1 x e .functions-whole, passes-1 x e .functions-fit, hl);
   }
+
+  pub room : (numbers lengths : List ℕ) → maxEntries ≤ length numbers → maxFunctions ≤ length lengths
+      → Room x (replicate maxValues 0) (replicate maxValues 0) numbers lengths
+  room = room-of maxValues (passes-1 x e .values-fit)
+
+  pub few-room : x .counts .values ≤ 512 → (numbers lengths : List ℕ) → maxEntries ≤ length numbers → maxFunctions ≤ length lengths
+      → Room x (replicate 512 0) (replicate 512 0) numbers lengths
+  few-room = room-of 512
 
   -- the cells from zeros
   pub tells : (bases claims : List ℕ) → bases ≡ basesAfter x (replicate maxOperations 0) → claims ≡ claimsAfter x bases (replicate maxEntries 0)

@@ -5,6 +5,7 @@ ghost use Prim.Native.Nat.{ℕ, _≤_};
 ghost use lib.ListN.{length, take};
 ghost use Rattle.tables.specs.Sizes.{maxEntries, maxFunctions};
 ghost use Rattle.tables.specs.Tables.{lent};
+ghost use Rattle.values.specs.Claims.{Filled};
 ghost use Rattle.table_checks.specs.Checks.{tableChecks};
 ghost use Rattle.nesting.specs.Numbering.{numbering as numbersOf};
 ghost use Rattle.numbering_walk.specs.Walk.{Tells};
@@ -12,10 +13,12 @@ ghost use Rattle.numbering.specs.Alone.{outcome, sizes, filledBy, handed
 ghost use Rattle.numbering.specs.Fill.{Room, Told, entriesNumbered};
 use cells::Span;
 use numbering_walk::Walked;
-use table_checks::Checked;
 use tables::Answer;
 use tables::Counts;
 use tables::Refusal;
+
+// As many values as a small stack takes.
+const FEW_VALUES: u64 = 512;
 
 // How many numbers are written, or the first refusal.
 pub enum Numbered {
@@ -77,6 +80,105 @@ fn visit_functions(
     Numbered::Written { count: done }
 }
 
+// The functions over few values: a small stack is soon cleared.
+fn visit_few(
+    o: &[u32],
+    b: &[u32],
+    r: &[u32],
+    f: &[u32],
+    l: &[u64],
+    n: Counts,
+    sheet: &[u64],
+    bases: &[u64],
+    claims: &[u64],
+    numbers: &mut [u64],
+    lengths: &mut [u64],
+) -> Numbered
+    ensures { λ w. ⌜ ((t v a : List ℕ) → let x = lent t v (now (o .entry)) a (now (b .entry)) (now (r .entry)) (now (f .entry)) (now (l .entry)) n in tableChecks x ≡ Answer.Accepted → Filled x (now (bases .entry)) (now (claims .entry)) → maxEntries ≤ length (now (numbers .entry)) → maxFunctions ≤ length (now (lengths .entry)) → n .values ≤ 512 → Told w (entriesNumbered (now (sheet .entry)) x) (sizes x) (now (numbers .exit)) (now (lengths .exit)) (now (numbers .entry)) (now (lengths .entry))) ⌝ }
+{
+    let mut dense = [0u64; 512];
+    let mut sparse = [0u64; 512];
+    visit_functions(
+        o,
+        b,
+        r,
+        f,
+        l,
+        n,
+        sheet,
+        bases,
+        claims,
+        &mut dense,
+        &mut sparse,
+        numbers,
+        lengths,
+    )
+}
+
+// The functions over a stack of their own, where 1 to 4 passed, the cells hold the claims and room is lent for every list.
+fn visit_all(
+    o: &[u32],
+    b: &[u32],
+    r: &[u32],
+    f: &[u32],
+    l: &[u64],
+    n: Counts,
+    sheet: &[u64],
+    bases: &[u64],
+    claims: &[u64],
+    numbers: &mut [u64],
+    lengths: &mut [u64],
+) -> Numbered
+    ensures { λ w. ⌜ ((t v a : List ℕ) → let x = lent t v (now (o .entry)) a (now (b .entry)) (now (r .entry)) (now (f .entry)) (now (l .entry)) n in tableChecks x ≡ Answer.Accepted → Filled x (now (bases .entry)) (now (claims .entry)) → maxEntries ≤ length (now (numbers .entry)) → maxFunctions ≤ length (now (lengths .entry)) → Told w (entriesNumbered (now (sheet .entry)) x) (sizes x) (now (numbers .exit)) (now (lengths .exit)) (now (numbers .entry)) (now (lengths .entry))) ⌝ }
+{
+    if n.values <= FEW_VALUES {
+        return visit_few(o, b, r, f, l, n, sheet, bases, claims, numbers, lengths);
+    }
+    let mut dense = [0u64; 4096];
+    let mut sparse = [0u64; 4096];
+    visit_functions(
+        o,
+        b,
+        r,
+        f,
+        l,
+        n,
+        sheet,
+        bases,
+        claims,
+        &mut dense,
+        &mut sparse,
+        numbers,
+        lengths,
+    )
+}
+
+// The same; a refusal leaves both lists all zero.
+fn walk_claimed(
+    o: &[u32],
+    b: &[u32],
+    r: &[u32],
+    f: &[u32],
+    l: &[u64],
+    n: Counts,
+    sheet: &[u64],
+    bases: &[u64],
+    claims: &[u64],
+    numbers: &mut [u64],
+    lengths: &mut [u64],
+) -> Numbered
+    ensures { λ w. ⌜ ((t v a : List ℕ) → let x = lent t v (now (o .entry)) a (now (b .entry)) (now (r .entry)) (now (f .entry)) (now (l .entry)) n in tableChecks x ≡ Answer.Accepted → Filled x (now (bases .entry)) (now (claims .entry)) → maxEntries ≤ length (now (numbers .entry)) → maxFunctions ≤ length (now (lengths .entry)) → outcome w (now (numbers .exit)) (now (lengths .exit)) ≡ filledBy (numbersOf (now (sheet .entry)) x) (sizes x) (now (numbers .entry)) (now (lengths .entry))) ⌝ }
+{
+    match visit_all(o, b, r, f, l, n, sheet, bases, claims, numbers, lengths) {
+        Numbered::Written { count } => Numbered::Written { count },
+        Numbered::Refused(why) => {
+            cells::clear_u64(numbers);
+            cells::clear_u64(lengths);
+            Numbered::Refused(why)
+        }
+    }
+}
+
 // For a caller that has asked 1 to 4 and lends room for every list; a refusal leaves both lists all zero.
 pub fn after_checks(
     v: &[u64],
@@ -96,30 +198,7 @@ pub fn after_checks(
     values::fill_bases(o, l, n, &mut bases);
     let mut claims = [0u64; 8192];
     values::fill_claims(o, l, v, n, &bases, &mut claims);
-    let mut dense = [0u64; 4096];
-    let mut sparse = [0u64; 4096];
-    match visit_functions(
-        o,
-        b,
-        r,
-        f,
-        l,
-        n,
-        sheet,
-        &bases,
-        &claims,
-        &mut dense,
-        &mut sparse,
-        numbers,
-        lengths,
-    ) {
-        Numbered::Written { count } => Numbered::Written { count },
-        Numbered::Refused(why) => {
-            cells::clear_u64(numbers);
-            cells::clear_u64(lengths);
-            Numbered::Refused(why)
-        }
-    }
+    walk_claimed(o, b, r, f, l, n, sheet, &bases, &claims, numbers, lengths)
 }
 
 // The front of both lists goes to the lent ones, where both have room.
@@ -179,14 +258,39 @@ pub fn numbering(
 ) -> Numbered
     ensures { λ w. ⌜ outcome w (now (numbers .exit)) (now (lengths .exit)) ≡ numberingAlone (now (sheet .entry)) (lent (now (t .entry)) (now (v .entry)) (now (o .entry)) (now (a .entry)) (now (b .entry)) (now (r .entry)) (now (f .entry)) (now (l .entry)) n) (now (numbers .entry)) (now (lengths .entry)) ⌝ }
 {
-    // The walk order is not asked for.
-    let mut order = [0u64; 0];
-    match table_checks::check_with_sheet(t, v, o, a, b, r, f, l, sheet, n, &mut order) {
-        Checked::Refused(why) => Numbered::Refused(why),
-        Checked::Fine(_) => {
+    let mut bases = [0u64; 2048];
+    let mut claims = [0u64; 8192];
+    match table_checks::claim_with_sheet(
+        t,
+        v,
+        o,
+        a,
+        b,
+        r,
+        f,
+        l,
+        sheet,
+        n,
+        &mut bases,
+        &mut claims,
+    ) {
+        Answer::Refused(why) => Numbered::Refused(why),
+        Answer::Accepted => {
             let mut all = [0u64; 8192];
             let mut each = [0u64; 64];
-            match after_checks(v, o, b, r, f, l, n, sheet, &mut all, &mut each) {
+            match walk_claimed(
+                o,
+                b,
+                r,
+                f,
+                l,
+                n,
+                sheet,
+                &bases,
+                &claims,
+                &mut all,
+                &mut each,
+            ) {
                 Numbered::Refused(why) => Numbered::Refused(why),
                 Numbered::Written { count } => {
                     hand_over(&all, count, &each, n.functions, numbers, lengths)

@@ -2,7 +2,7 @@
 -- Assumes nothing.
 use Prim.Native.Nat.{ℕ, zero, suc, _+_, _≤_}
 use native.Mathlib.Omega.{arith}
-use mathlib.Core.Path.{_≡_, refl, sym, ap, _∙_}
+use mathlib.Core.Path.{_≡_, refl, sym, subst, ap, _∙_}
 use mathlib.Core.List.{List, []}
 use mathlib.Core.Bool.{cond}
 use lib.Dec.{leb}
@@ -20,6 +20,7 @@ use Rattle.listed.specs.Twice.{listedTwice}
 use Rattle.walk.specs.Depth.{operationDepth, blockDepth, regionDepth, tooDeep}
 use Rattle.walk.specs.Order.{operationOrder, blockOrder, regionOrder, orderTo, order}
 use Rattle.values.specs.Results.{sumBelow, declaredIn}
+use Rattle.values.specs.Claims.{Filled}
 use Rattle.values.specs.Guarded.{guardedTwice}
 use Rattle.values.proofs.Laws.{guard-holds, bare-twice}
 use Rattle.table_checks.specs.Checks.{afterRanges}
@@ -60,3 +61,12 @@ after-is x e =
     let c = cut-is x h in
     ap (λ (y : Tables). andThen (listedTwice y) (andThen (tooDeep x) (guardedTwice y))) c
     ∙ ap (λ (q : Answer). andThen (listedTwice x) (andThen (tooDeep x) q)) (guard-holds x (few-results x h))
+
+-- the cells as they were filled on the cut counts are those of the whole ones
+pub filled-is : (x : Tables) → tableRanges x ≡ Accepted → (bases cells : List ℕ)
+    → (declaredIn (cut x) (cut x .counts .operations) ≤ maxEntries → Filled (cut x) bases cells) → Filled x bases cells
+filled-is x e bases cells h =
+    let r = ranged x e in
+    let c = cut-is x r in
+    subst (λ (y : Tables). Filled y bases cells) c
+    (h (subst (λ (y : Tables). declaredIn y (y .counts .operations) ≤ maxEntries) (sym c) (few-results x r)))

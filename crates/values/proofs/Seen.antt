@@ -96,5 +96,8 @@ module _ (x : Tables) (total : ℕ) (e : total ≡ baseOf x (x .counts .operatio
   pub few : total ≤ maxEntries → declaredIn x (x .counts .operations) ≤ maxEntries
   few h = omega arith
 
+  pub not-few : maxEntries < total → declaredIn x (x .counts .operations) ≤ maxEntries → ⊥
+  not-few h f = omega arith
+
   pub many : maxEntries < total → Accepted ≡ guardedTwice x
   many h = rw (lt-leb (declaredIn x (x .counts .operations)) maxEntries (omega arith))

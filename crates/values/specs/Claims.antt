@@ -1,13 +1,14 @@
 -- What the code keeps to find the value of a declared result in one step: where the results of each operation start among all of them,
 -- and a cell for each of them.
 use Prim.Native.Nat.{ℕ, zero, suc, _+_, min}
+use mathlib.Core.Path.{_≡_}
 use mathlib.Core.Bool.{Bool, cond, not, _&&_, _||_}
 use mathlib.Core.List.{List, [], _∷_}
 use mathlib.Core.Option.{Option, some, none}
 use lib.Dec.{ltb, eqb}
-use lib.ListN.{getD, set}
+use lib.ListN.{getD, set, replicate}
 use Rattle.cells.specs.Lists.{below, find}
-use Rattle.tables.specs.Sizes.{maxEntries}
+use Rattle.tables.specs.Sizes.{maxOperations, maxEntries}
 use Rattle.tables.specs.Tables.{Tables, claim, declared}
 use Rattle.tables.specs.declared.Claim.{Claim}
 use Rattle.tables.specs.declared.Claim.the-variants.{Result, Nothing}
@@ -42,6 +43,10 @@ claimsAfter x bases cells = claimsBy (λ v. putClaim (declared x) bases (v + 1) 
 abbrev pub numberOf : Option ℕ → ℕ
 numberOf none = 0
 numberOf (some v) = v + 1
+
+-- the cells as they are filled from zeros
+abbrev pub Filled : Tables → List ℕ → List ℕ → Type 0
+Filled x bases cells = (bases ≡ basesAfter x (replicate maxOperations 0)) × (cells ≡ claimsAfter x bases (replicate maxEntries 0))
 
 -- a value's number is not the one in the cell of the declared result that it claims, or it is listed besides, or listed twice
 unfoldable pub seenTwice : (ℕ → ℕ → Bool) → List ℕ → List ℕ → ℕ → ℕ → Claim → Bool

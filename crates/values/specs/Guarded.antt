@@ -1,4 +1,7 @@
 -- The answer on tables of any lengths. Where code 1 passed, no more results are declared than there may be list entries, and it is code 4's.
+use Prim.Native.Nat.{ℕ, _≤_}
+use mathlib.Core.Path.{_≡_}
+use mathlib.Core.List.{List}
 use mathlib.Core.Bool.{cond}
 use lib.Dec.{leb}
 use Rattle.tables.specs.Sizes.{maxEntries}
@@ -6,7 +9,12 @@ use Rattle.tables.specs.Tables.{Tables}
 use Rattle.tables.specs.declared.Answer.{Answer}
 use Rattle.tables.specs.declared.Answer.the-variants.{Accepted}
 use Rattle.values.specs.Results.{declaredIn}
+use Rattle.values.specs.Claims.{Filled}
 use Rattle.values.specs.Twice.{valuesTwice}
 
 abbrev pub guardedTwice : Tables → Answer
 guardedTwice x = cond (leb (declaredIn x (x .counts .operations)) maxEntries) (valuesTwice x) Accepted
+
+-- the answer, and the cells that are handed on where no more results are declared than there may be list entries
+abbrev pub Claimed : Answer → Tables → List ℕ → List ℕ → Type 0
+Claimed r x bases cells = (r ≡ guardedTwice x) × (declaredIn x (x .counts .operations) ≤ maxEntries → Filled x bases cells)

@@ -2,13 +2,13 @@
 ghost use mathlib.Core.Path.{_≡_};
 ghost use mathlib.Core.List.{[]};
 ghost use Prim.Native.Nat.{_+_, min};
-ghost use lib.ListN.{length, getD};
+ghost use lib.ListN.{length, getD, replicate};
 ghost use Rattle.cells.specs.Lists.{below, flat};
 ghost use Rattle.tables.specs.Layout.{argumentsIn, resultTypesIn};
-ghost use Rattle.tables.specs.Sizes.{maxEntries};
+ghost use Rattle.tables.specs.Sizes.{maxOperations, maxEntries};
 ghost use Rattle.tables.specs.Tables.{lent, cut, declared};
 ghost use Rattle.listed.specs.Marks.{markAll};
-ghost use Rattle.values.specs.Guarded.{guardedTwice};
+ghost use Rattle.values.specs.Guarded.{guardedTwice, Claimed};
 ghost use Rattle.values.specs.Claims.{baseOf, basesAfter, putClaim, claimsAfter, seenTwice, lowestSeen};
 ghost use Rattle.values.specs.Twice.{refused};
 use tables::Answer;
@@ -155,19 +155,35 @@ fn lowest_seen(
     Answer::Accepted
 }
 
-// The lowest value that is defined twice. Where code 1 passed, no more results are declared than there may be list entries.
-pub fn values_twice(o: &[u32], v: &[u64], b: &[u32], l: &[u64], n: Counts) -> Answer
-    ensures { λ r. ⌜ r ≡ guardedTwice (cut (lent [] (now (v .entry)) (now (o .entry)) [] (now (b .entry)) [] [] (now (l .entry)) n)) ⌝ }
+// The lowest value that is defined twice; the lent cells, zeros before, keep where results start and which value claims each. Where code 1
+// passed, no more results are declared than there may be list entries.
+pub fn values_claimed(
+    o: &[u32],
+    v: &[u64],
+    b: &[u32],
+    l: &[u64],
+    n: Counts,
+    bases: &mut [u64],
+    claims: &mut [u64],
+) -> Answer
+    ensures { λ r. ⌜ (now (bases .entry) ≡ replicate maxOperations 0 → now (claims .entry) ≡ replicate maxEntries 0 → Claimed r (cut (lent [] (now (v .entry)) (now (o .entry)) [] (now (b .entry)) [] [] (now (l .entry)) n)) (now (bases .exit)) (now (claims .exit))) ⌝ }
 {
     let m = tables::cut_counts(n);
-    let mut bases = [0u64; 2048];
-    let total = fill_bases(o, l, m, &mut bases);
+    let total = fill_bases(o, l, m, bases);
     if tables::MAX_ENTRIES < total {
         return Answer::Accepted;
     }
     let mut marks = [0u64; 4096];
     mark_arguments(b, l, m, &mut marks);
+    fill_claims(o, l, v, m, bases, claims);
+    lowest_seen(o, l, v, m, &marks, bases, claims)
+}
+
+// The same with cells of its own.
+pub fn values_twice(o: &[u32], v: &[u64], b: &[u32], l: &[u64], n: Counts) -> Answer
+    ensures { λ r. ⌜ r ≡ guardedTwice (cut (lent [] (now (v .entry)) (now (o .entry)) [] (now (b .entry)) [] [] (now (l .entry)) n)) ⌝ }
+{
+    let mut bases = [0u64; 2048];
     let mut claims = [0u64; 8192];
-    fill_claims(o, l, v, m, &bases, &mut claims);
-    lowest_seen(o, l, v, m, &marks, &bases, &claims)
+    values_claimed(o, v, b, l, n, &mut bases, &mut claims)
 }
