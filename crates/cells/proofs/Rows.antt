@@ -3,15 +3,15 @@
 use mathlib.Core.Path.{_≡_, refl, sym, ap, _∙_}
 use mathlib.Core.List.{List}
 use mathlib.Core.Logic.{_⊎_, inl, inr, ⊎-elim}
-use mathlib.Core.Bool.{Bool, true, false}
-use Prim.Native.Nat.{ℕ, suc, _+_, _*_, _/_, _%_, _≤_, _<_, min}
+use mathlib.Core.Bool.{Bool, true, false, _&&_, and-eq-true-iff}
+use Prim.Native.Nat.{ℕ, suc, _+_, _-_, _*_, _/_, _%_, _≤_, _<_, min}
 use native.Mathlib.Nat.{div-lt-iff-lt-mul, le-div-iff-mul-le, suc-mul}
 use native.Mathlib.Omega.{arith}
 use lib.Arith.{digits-div, digits-mod}
-use lib.Dec.{ltb}
+use lib.Dec.{ltb, leb}
 use lib.ListN.{length, getD, set, drop, List·getD-eq-default, drop-of-length-le}
 use lib.Seq.{getD-set-same, getD-set-other, set-out}
-use borrow.Author.Tests.{ltb-true, ltb-false}
+use borrow.Author.Tests.{ltb-true, ltb-false, leb-true}
 use Rattle.cells.specs.Cell.{cell, putCell}
 
 -- a number is below another, or not
@@ -32,6 +32,16 @@ module _ (n : ℕ) {w i : ℕ} (p : 0 < w) where
 
   pub row-whole : i < n / w → i * w + w ≤ n
   row-whole h = let e : suc i * w ≤ n = le-div-iff-mul-le p .0 h in let m = suc-mul i w in omega arith
+
+-- c cells from column j on, in a row that stands whole
+pub cells-whole : (n w i j c : ℕ) → (ltb j w && (leb c (w - j) && ltb i (n / w))) ≡ true → (j < w) × (i * w + j + c ≤ n)
+cells-whole n w i j c e =
+    let h = and-eq-true-iff (ltb j w) (leb c (w - j) && ltb i (n / w)) .0 e in
+    let k = and-eq-true-iff (leb c (w - j)) (ltb i (n / w)) .0 (h .1) in
+    let below : j < w = ltb-true j w (h .0) in
+    let room : c ≤ w - j = leb-true c (w - j) (k .0) in
+    let whole : i * w + w ≤ n = row-whole n {w = w} {i = i} (omega arith) (ltb-true i (n / w) (k .1)) in
+    (below, omega arith)
 
 -- an index cut at the length reads and writes the same
 module _ (xs : List ℕ) (k : ℕ) where

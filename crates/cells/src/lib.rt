@@ -1,6 +1,8 @@
 // Lent tables: reads that give 0 past the end, writes that do nothing past the end. No caller has to ask first.
 ghost use mathlib.Core.Path.{_≡_};
-ghost use Prim.Native.Nat.{_+_, _-_, _*_, _%_, _^_, min};
+ghost use Prim.Native.Nat.{_+_, _-_, _*_, _/_, _%_, _^_, min};
+ghost use mathlib.Core.Bool.{_&&_};
+ghost use lib.Dec.{ltb, leb};
 ghost use lib.ListN.{length, getD, set, replicate};
 ghost use Rattle.cells.specs.Cell.{cell, putCell, spanAt, entriesOf, partAt, copied};
 
@@ -69,17 +71,8 @@ pub fn narrow(x: u64) -> u32
 pub fn place(len: u64, width: u64, row: u64, column: u64) -> u64
     ensures { λ r. ⌜ r ≡ min (row * width + column) len ⌝ }
 {
-    // A row that stands whole: the common case, asked first.
-    if column < width {
-        if row < len / width {
-            return row * width + column;
-        }
-    }
-    if len <= column {
-        return len;
-    }
     if width == 0 {
-        return column;
+        return least(column, len);
     }
     if len / width < row {
         return len;
@@ -91,17 +84,37 @@ pub fn place(len: u64, width: u64, row: u64, column: u64) -> u64
     start + column
 }
 
-// The cell of a row and a column, in rows of width cells.
+// Whether the row stands whole among len cells and has so many of them from the column on.
+fn is_whole(len: u64, width: u64, row: u64, column: u64, count: u64) -> bool
+    ensures { λ r. ⌜ r ≡ (ltb column width && (leb count (width - column) && ltb row (len / width))) ⌝ }
+{
+    if width <= column {
+        return false;
+    }
+    (count <= width - column) & (row < len / width)
+}
+
+// The cell of a row and a column, in rows of width cells. A whole row is the common case, asked first.
 pub fn cell_u32(s: &[u32], width: u64, row: u64, column: u64) -> u64
     ensures { λ r. ⌜ r ≡ cell width (now (s .entry)) row column ⌝ }
 {
-    at_u32(s, place(s.len() as u64, width, row, column))
+    let n = s.len() as u64;
+    if is_whole(n, width, row, column, 1) {
+        let k = (row * width + column) as usize;
+        return s[k] as u64;
+    }
+    at_u32(s, place(n, width, row, column))
 }
 
 pub fn cell_u64(s: &[u64], width: u64, row: u64, column: u64) -> u64
     ensures { λ r. ⌜ r ≡ cell width (now (s .entry)) row column ⌝ }
 {
-    at_u64(s, place(s.len() as u64, width, row, column))
+    let n = s.len() as u64;
+    if is_whole(n, width, row, column, 1) {
+        let k = (row * width + column) as usize;
+        return s[k];
+    }
+    at_u64(s, place(n, width, row, column))
 }
 
 // x at the cell of a row and a column.
@@ -124,6 +137,13 @@ pub fn span_at(s: &[u32], width: u64, row: u64, column: u64) -> Span
     ensures { λ r. ⌜ r ≡ spanAt width (now (s .entry)) row column ⌝ }
 {
     let n = s.len() as u64;
+    if is_whole(n, width, row, column, 2) {
+        let k = (row * width + column) as usize;
+        return Span {
+            start: s[k] as u64,
+            len: s[k + 1] as u64,
+        };
+    }
     let k = place(n, width, row, column);
     if n <= k {
         return Span { start: 0, len: 0 };

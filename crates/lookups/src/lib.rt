@@ -1,7 +1,9 @@
 // What a rule reads of an operation: its attributes by name and form, and the types and tiles of its operands and its result.
 ghost use mathlib.Core.Path.{_≡_};
+ghost use Rattle.tiles.specs.Tile.{tileRow};
 ghost use Rattle.lookups.specs.Lookup.{isTaken, firstIn, isEntry, entryIn, integerIn, numberOr, permutationIn, segmentsIn, segmentIn, flushesIn};
 ghost use Rattle.lookups.specs.Typed.{operandTypeIn, resultTypeIn, tileBy, operandTileIn, resultTileIn};
+use cells::Span;
 use tables::Counts;
 use tiles::Tile;
 
@@ -216,17 +218,33 @@ pub fn result_type(o: &[u32], l: &[u64], n: Counts, operation: u64) -> Typed
     Typed::By(cells::at_u64(types, 0))
 }
 
-// The tile of a type, where there is one.
-fn tile_by(t: &[u64], sheet: &[u64], n: Counts, typed: Typed) -> Tile
-    ensures { λ r. ⌜ r ≡ tileBy (now (t .entry)) (now (sheet .entry)) n typed ⌝ }
+// The cells of a type that is a tile; none where there is no type.
+fn row_by<'a>(t: &'a [u64], sheet: &[u64], n: Counts, typed: Typed) -> &'a [u64]
+    ensures { λ r. ⌜ tileRow (now r) ≡ tileBy (now (t .entry)) (now (sheet .entry)) n typed ⌝ }
 {
     match typed {
-        Typed::By(id) => tiles::type_tile(t, sheet, n, id),
-        Typed::Untyped => tiles::no_tile(),
+        Typed::By(id) => tiles::seen_row(t, sheet, n, id),
+        Typed::Untyped => cells::entries(t, Span { start: 0, len: 0 }),
     }
 }
 
-// The tile of an operation's operand k.
+// The cells of the type of an operation's operand k, where it is a tile.
+fn operand_row<'a>(
+    t: &'a [u64],
+    v: &[u64],
+    o: &[u32],
+    l: &[u64],
+    sheet: &[u64],
+    n: Counts,
+    operation: u64,
+    k: u64,
+) -> &'a [u64]
+    ensures { λ r. ⌜ tileRow (now r) ≡ operandTileIn (now (t .entry)) (now (v .entry)) (now (o .entry)) (now (l .entry)) (now (sheet .entry)) n operation k ⌝ }
+{
+    row_by(t, sheet, n, operand_type(v, o, l, n, operation, k))
+}
+
+// The tile of an operation's operand k. Its cells are found by a call of their own, so that the tile is written where it is wanted.
 pub fn operand_tile(
     t: &[u64],
     v: &[u64],
@@ -239,7 +257,21 @@ pub fn operand_tile(
 ) -> Tile
     ensures { λ r. ⌜ r ≡ operandTileIn (now (t .entry)) (now (v .entry)) (now (o .entry)) (now (l .entry)) (now (sheet .entry)) n operation k ⌝ }
 {
-    tile_by(t, sheet, n, operand_type(v, o, l, n, operation, k))
+    tiles::tile_of(operand_row(t, v, o, l, sheet, n, operation, k))
+}
+
+// The cells of the type of an operation's first result, where it is a tile.
+fn result_row<'a>(
+    t: &'a [u64],
+    o: &[u32],
+    l: &[u64],
+    sheet: &[u64],
+    n: Counts,
+    operation: u64,
+) -> &'a [u64]
+    ensures { λ r. ⌜ tileRow (now r) ≡ resultTileIn (now (t .entry)) (now (o .entry)) (now (l .entry)) (now (sheet .entry)) n operation ⌝ }
+{
+    row_by(t, sheet, n, result_type(o, l, n, operation))
 }
 
 // The tile of an operation's first result.
@@ -253,5 +285,5 @@ pub fn result_tile(
 ) -> Tile
     ensures { λ r. ⌜ r ≡ resultTileIn (now (t .entry)) (now (o .entry)) (now (l .entry)) (now (sheet .entry)) n operation ⌝ }
 {
-    tile_by(t, sheet, n, result_type(o, l, n, operation))
+    tiles::tile_of(result_row(t, o, l, sheet, n, operation))
 }

@@ -8,3 +8,4 @@ pub mod Groups
 pub mod Axes
 pub mod Laws
 pub mod Examples
+pub mod Rows

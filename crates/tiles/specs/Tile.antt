@@ -1,11 +1,11 @@
 -- A tile, as the rules see a type: its form, its kind, and its shape. "a shape is a rank and eight dims held together".
-use Prim.Native.Nat.{ℕ}
+use Prim.Native.Nat.{ℕ, _*_, min}
 use mathlib.Core.Bool.{Bool, true, false, not, cond, _&&_, _||_}
 use mathlib.Core.List.{List, _++_, map}
 use mathlib.Core.Option.{Option, some, none}
-use lib.Dec.{eqb, leb}
+use lib.Dec.{eqb, leb, ltb}
 use lib.IntN.{ℤ, pos}
-use lib.ListN.{length, getD, take, replicate}
+use lib.ListN.{length, getD, take, drop, replicate}
 use Rattle.arith.specs.Signed.{signedOf}
 use Rattle.tables.specs.Layout.{formIn, kindIn, pointerIn, dimsIn}
 use Rattle.tables.specs.Sheet.{tileThroughIn}
@@ -23,6 +23,20 @@ noTile = record { form = 0; kind = 0; rank = 0; dims = replicate 8 (pos 0) }
 -- the first eight of the numbers with these bits, with 0 after them up to eight
 unfoldable pub eightOf : List ℕ → List ℤ
 eightOf bits = take 8 (map signedOf bits ++ replicate 8 (pos 0))
+
+-- the cells of a type, as far as they go; none of an id that is no type
+unfoldable pub cellsOf : List ℕ → Counts → ℕ → List ℕ
+cellsOf t n id = take (cond (ltb id (n .types)) 16 0) (drop (id * 16) t)
+
+-- the kind and dims of a type's cells, as a tile of this form: column 1 is the kind, 5 the rank, 8 to 15 the dims
+unfoldable pub rowTile : ℕ → List ℕ → Tile
+rowTile form row =
+    let dims = take (min (getD row 5 0) 8) (drop 8 row) in
+    record { form = form; kind = getD row 1 0; rank = length dims; dims = eightOf dims }
+
+-- the tile that a type's own cells are; none where there are none
+abbrev pub tileRow : List ℕ → Tile
+tileRow row = rowTile (getD row 0 0) row
 
 -- a type's kind and dims, as a tile of this form
 unfoldable pub rowIn : ℕ → List ℕ → Counts → ℕ → Tile

@@ -2,15 +2,19 @@
 // are joined by `&` and `|`: no part has to be asked first.
 ghost use mathlib.Core.Path.{_≡_};
 ghost use Rattle.arith.specs.Signed.{signedOf};
+ghost use mathlib.Core.Bool.{cond};
 ghost use mathlib.Core.List.{map};
+ghost use lib.IntN.{pos};
+ghost use lib.ListN.{take, drop};
 ghost use Rattle.cells.specs.Lists.{mem};
 ghost use Rattle.tiles.specs.Kind.{isInteger, bitsIn};
-ghost use Rattle.tiles.specs.Tile.{noTile, eightOf, rowIn, tileIn, viewIn, rankOf, dimOf, dimsOf, isTile, isNumber, isPointer, hasKind, sameScalar, sameElement, pointsTo, isIntegers, isIntegersOrPointers};
+ghost use Rattle.tiles.specs.Tile.{noTile, eightOf, cellsOf, rowTile, tileRow, tileIn, viewIn, rankOf, dimOf, dimsOf, isTile, isNumber, isPointer, hasKind, sameScalar, sameElement, pointsTo, isIntegers, isIntegersOrPointers};
 ghost use Rattle.tiles.specs.Shape.{eqZ, anyPair, allPairs, sameDim, sameRank, sameShape, sameTile, undividedBy, isUneven, stretchesTo, isStretched, quotientOf, countOf, hasLeft, sameProduct};
 ghost use Rattle.tiles.specs.Rules.{sameBits, isBitcast, isReshape, isBroadcast, hasAxes, isPermutation, movedFrom, isPermuted, isPackable, bitCountOf, inBytes, isPacked, atomicDiffers, isWord, isWrongMask, outsideDim, isGroupOutside, isGroupsOutside, isPowerBase, isPowerExponent, isNoPart, isIndex, isAxisIndex};
 ghost use Rattle.tiles.specs.Mma.{rowOf, columnOf, mmaRanksDiffer, mmaDimsDiffer, isMmaPair, isMmaKinds, scaleRanksDiffer, scaleDimsDiffer, vectorOf, isScaled, isScaleKinds};
 use arith::Product;
 use arith::Remainder;
+use cells::Span;
 use tables::Counts;
 
 // The kinds of elements.
@@ -79,14 +83,44 @@ fn eight(bits: &[u64]) -> [i64; 8]
     dims
 }
 
-// A type's kind and dims, as a tile of this form.
-fn row_tile(form: u64, t: &[u64], n: Counts, id: u64) -> Tile
-    ensures { λ r. ⌜ r ≡ rowIn form (now (t .entry)) n id ⌝ }
+// The number with these bits, or 0 in its place.
+fn kept(keep: bool, bits: u64) -> i64
+    ensures { λ r. ⌜ r ≡ cond keep (signedOf bits) (pos 0) ⌝ }
 {
-    let kind = tables::type_kind(t, n, id);
-    let bits = tables::type_dims(t, n, id);
-    let rank = bits.len() as u64;
-    let dims = eight(bits);
+    if keep { arith::signed(bits) } else { 0 }
+}
+
+// So many dims of a type's cells, with 0 after them. Whole cells are read all, so that no turn waits for the rank.
+fn dims_of(row: &[u64], rank: u64) -> [i64; 8]
+    ensures { λ r. ⌜ r ≡ eightOf (take rank (drop 8 (now (row .entry)))) ⌝ }
+{
+    if row.len() < 16 {
+        return eight(cells::entries(
+            row,
+            Span {
+                start: 8,
+                len: rank,
+            },
+        ));
+    }
+    let mut dims = [0i64; 8];
+    let mut i: usize = 0;
+    while i < 8 {
+        let d = kept((i as u64) < rank, row[8 + i]);
+        dims[i] = d;
+        i += 1;
+    }
+    dims
+}
+
+// The kind and dims of a type's cells, as a tile of this form.
+fn row_tile(form: u64, row: &[u64]) -> Tile
+    ensures { λ r. ⌜ r ≡ rowTile form (now (row .entry)) ⌝ }
+{
+    let kind = cells::at_u64(row, 1);
+    let wanted = cells::least(cells::at_u64(row, 5), tables::MAX_RANK);
+    let rank = cells::least(wanted, cells::rest(row.len() as u64, 8));
+    let dims = dims_of(row, rank);
     Tile {
         form,
         kind,
@@ -95,26 +129,49 @@ fn row_tile(form: u64, t: &[u64], n: Counts, id: u64) -> Tile
     }
 }
 
+// The cells of a type, as far as they go; none of an id that is no type.
+fn type_row(t: &[u64], n: Counts, id: u64) -> &[u64]
+    ensures { λ r. ⌜ now r ≡ cellsOf (now (t .entry)) n id ⌝ }
+{
+    let len = if id < n.types { tables::TYPE_CELLS } else { 0 };
+    cells::part_at(t, tables::TYPE_CELLS, id, 0, len)
+}
+
+// The cells of a type that is a tile; none of any other.
+pub fn seen_row<'a>(t: &'a [u64], sheet: &[u64], n: Counts, id: u64) -> &'a [u64]
+    ensures { λ r. ⌜ tileRow (now r) ≡ tileIn (now (t .entry)) (now (sheet .entry)) n id ⌝ }
+{
+    let row = type_row(t, n, id);
+    let form = cells::at_u64(row, 0);
+    let seen = (cells::at_u64(row, 2) == 0) | tables::tile_through(sheet);
+    if ((form == 1) | (form == 2)) & seen {
+        return row;
+    }
+    cells::entries(row, Span { start: 0, len: 0 })
+}
+
+// The tile that such cells are; none where there are none.
+pub fn tile_of(row: &[u64]) -> Tile
+    ensures { λ r. ⌜ r ≡ tileRow (now (row .entry)) ⌝ }
+{
+    row_tile(cells::at_u64(row, 0), row)
+}
+
 // The tile that a type is.
 pub fn type_tile(t: &[u64], sheet: &[u64], n: Counts, id: u64) -> Tile
     ensures { λ r. ⌜ r ≡ tileIn (now (t .entry)) (now (sheet .entry)) n id ⌝ }
 {
-    let form = tables::type_form(t, n, id);
-    let pointer = tables::type_pointer(t, n, id);
-    let seen = (pointer == 0) | tables::tile_through(sheet);
-    if ((form == 1) | (form == 2)) & seen {
-        return row_tile(form, t, n, id);
-    }
-    no_tile()
+    tile_of(seen_row(t, sheet, n, id))
 }
 
 // The tile that a view takes and gives.
 pub fn view_tile(t: &[u64], n: Counts, id: u64) -> Tile
     ensures { λ r. ⌜ r ≡ viewIn (now (t .entry)) n id ⌝ }
 {
-    let form = tables::type_form(t, n, id);
+    let row = type_row(t, n, id);
+    let form = cells::at_u64(row, 0);
     if (4 <= form) & (form <= 6) {
-        return row_tile(1, t, n, id);
+        return row_tile(1, row);
     }
     no_tile()
 }

@@ -1,18 +1,17 @@
--- `operand_tile` meets its contract: the tile of the type.
-use Rattle.lookups.specs.Typed.{operandTileIn}
+-- `operand_tile` meets its contract: the tile of the cells that the call gives.
 use borrow.Author.Needs.{needs}
+use mathlib.Core.Path.{_∙_}
 use Rattle.lookups.proofs.operand_tile.Statement.{statement}
 use Rattle.lookups.proofs.operand_tile.Tie as tie
 
-operand-type-requires : tie.Need-operand-type-requires
-operand-type-requires c κs = search needs
+operand-row-requires : tie.Need-operand-row-requires
+operand-row-requires c κs = search needs
 
-tile-by-requires : tie.Need-tile-by-requires
-tile-by-requires c κs = search needs
+tile-of-requires : tie.Need-tile-of-requires
+tile-of-requires c κs = search needs
 
 returns : tie.Need-returns
-unfolding operandTileIn
-returns c = rw (← c .before .operand-type .ensures) (c .tile-by .ensures)
+returns c = c .tile-of .ensures ∙ c .before .operand-row .ensures
 
 pub operand-tile-spec : {M : Type 1} → statement M
-operand-tile-spec = tie.close (tie.spec operand-type-requires tile-by-requires returns)
+operand-tile-spec = tie.close (tie.spec operand-row-requires tile-of-requires returns)

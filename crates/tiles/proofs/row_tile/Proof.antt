@@ -1,21 +1,51 @@
--- `row_tile` meets its contract: each field is what the call promises.
+-- `row_tile` meets its contract: each field is what is read of the cells.
 use borrow.Author.Needs.{needs}
-use Rattle.tiles.specs.Tile.{rowIn}
+use mathlib.Core.Path.{_≡_, sym, ap, _∙_}
+use mathlib.Core.List.{List}
+use Prim.Native.Nat.{ℕ, min}
+use lib.ListN.{length, getD, take, drop, length-take, length-drop}
+use Rattle.tiles.specs.Tile.{rowTile, eightOf}
+use Rattle.tiles.proofs.Rows.{take-least}
 use Rattle.tiles.proofs.row_tile.Statement.{statement}
 use Rattle.tiles.proofs.row_tile.Tie as tie
 
-type-kind-requires : tie.Need-type-kind-requires
-type-kind-requires c κs = search needs
+at-u64-requires : tie.Need-at-u64-requires
+at-u64-requires c κs = search needs
 
-type-dims-requires : tie.Need-type-dims-requires
-type-dims-requires c κs = search needs
+at-u64-requires-2 : tie.Need-at-u64-requires-2
+at-u64-requires-2 c κs = search needs
 
-eight-requires : tie.Need-eight-requires
-eight-requires c κs = search needs
+least-requires : tie.Need-least-requires
+least-requires c κs = search needs
+
+rest-requires : tie.Need-rest-requires
+rest-requires c κs = search needs
+
+least-requires-2 : tie.Need-least-requires-2
+least-requires-2 c κs = search needs
+
+dims-of-requires : tie.Need-dims-of-requires
+dims-of-requires c κs = search needs
 
 returns : tie.Need-returns
-unfolding rowIn
-returns c = rw (c .eight .ensures, c .before .type-dims .ensures, c .before .before .type-kind .ensures)
+unfolding rowTile
+returns c =
+    let row = c .before .before .before .before .before .before .before .args .row .now in
+    let wanted = min (getD row 5 0) 8 in
+    let dims = drop 8 row in
+    let asked : c .before .before .before .least .result ≡ wanted = c .before .before .before .least .ensures ∙ ap (λ (k : ℕ). min k 8) (c .before .before .before .before .at-u642 .ensures) in
+    let rank : c .before .least2 .result ≡ min wanted (length dims) = c .before .least2 .ensures ∙ rw (asked, c .before .before .rest .ensures, length-drop 8 row) in
+    let shape : c .dims-of .result ≡ eightOf (take wanted dims) = c .dims-of .ensures ∙ ap eightOf (ap (λ (k : ℕ). take k dims) rank ∙ take-least wanted dims) in
+    rw (shape, rank, length-take wanted dims, c .before .before .before .before .before .at-u64 .ensures)
 
 pub row-tile-spec : {M : Type 1} → statement M
-row-tile-spec = tie.close (tie.spec type-kind-requires type-dims-requires eight-requires returns)
+row-tile-spec =
+    tie.close
+    (tie.spec
+    at-u64-requires
+    at-u64-requires-2
+    least-requires
+    rest-requires
+    least-requires-2
+    dims-of-requires
+    returns)
