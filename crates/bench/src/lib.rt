@@ -31,9 +31,25 @@ pub extern "C" fn lavrindes_check_tables(
 )
     ensures { λ _. ⌜ now (answer .exit) ≡ noted (told (tableChecks (lent (now (t .entry)) (now (v .entry)) (now (o .entry)) (now (a .entry)) (now (b .entry)) (now (r .entry)) (now (f .entry)) (now (l .entry)) (countsOf (now (counts .entry)))))) (now (answer .entry)) ⌝ }
 {
-    let mut order = [0u64; 2048];
+    // Neither the walk order nor the claims are asked for.
+    let mut order = [0u64; 0];
+    let mut bases = [0u64; 0];
+    let mut claims = [0u64; 0];
     let n = answers::counts_of(counts);
-    let said = table_checks::check_tables(t, v, o, a, b, r, f, l, n, &mut order);
+    let said = table_checks::check_tables(
+        t,
+        v,
+        o,
+        a,
+        b,
+        r,
+        f,
+        l,
+        n,
+        &mut order,
+        &mut bases,
+        &mut claims,
+    );
     answers::note_checked(said, answer);
 }
 

@@ -26,7 +26,23 @@ pub fn check_alone(
         return Answer::Refused(why);
     }
     let mut list = [0u64; 2048];
-    match table_checks::check_tables(t, v, o, a, b, r, f, l, n, &mut list) {
+    // The claims are not asked for.
+    let mut bases = [0u64; 0];
+    let mut claims = [0u64; 0];
+    match table_checks::check_tables(
+        t,
+        v,
+        o,
+        a,
+        b,
+        r,
+        f,
+        l,
+        n,
+        &mut list,
+        &mut bases,
+        &mut claims,
+    ) {
         Checked::Refused(why) => Answer::Refused(why),
         Checked::Fine(m) => {
             let order = cells::entries(&list, Span { start: 0, len: m });

@@ -1,21 +1,16 @@
--- What accepted tables give the walk: the cells tell the values of declared results, and the stack takes up all that becomes live as it
--- stands. Assumes nothing.
-use Prim.Native.Nat.{ℕ, zero, suc, _≤_}
+-- What accepted tables give the walk: the stack takes up all that becomes live as it stands. Assumes nothing.
+use Prim.Native.Nat.{ℕ, _≤_}
 use native.Mathlib.Omega.{arith}
 use mathlib.Core.Path.{_≡_}
 use mathlib.Core.Logic.{⊎-elim}
 use mathlib.Core.List.{List}
-use lib.ListN.{length, replicate, length-replicate, getD-replicate}
+use lib.ListN.{length, replicate, length-replicate}
 use Rattle.cells.specs.Lists.{below, count}
 use Rattle.cells.proofs.Rows.{lt-or-ge}
-use Rattle.tables.specs.Sizes.{maxValues, maxOperations, maxEntries}
-use Rattle.tables.specs.Tables.{Tables, arguments, resultTypes}
+use Rattle.tables.specs.Sizes.{maxValues}
+use Rattle.tables.specs.Tables.{Tables, arguments}
 use Rattle.tables.specs.declared.Answer.the-variants.{Accepted, Refused}
 use Rattle.tables.specs.declared.Refusal.{Refusal}
-use Rattle.ranges.specs.Range.{sum, listedByOperation}
-use Rattle.values.specs.Results.{sumBelow, declaredIn}
-use Rattle.values.specs.Claims.{basesAfter, claimsAfter}
-use Rattle.values.proofs.Laws.{value-at}
 use Rattle.table_checks.specs.Checks.{tableChecks}
 use Rattle.table_checks.proofs.Laws.{passes-1, passes-4}
 use Rattle.table_checks.proofs.Reach.{operations-once, blocks-once, regions-once, flat-past}
@@ -25,36 +20,15 @@ use Rattle.nesting.proofs.Theorems.{stack-dominance}
 use Rattle.scope.specs.Stack.{seeAll}
 use Rattle.scope.proofs.Laws.{grows}
 use Rattle.dominance.specs.Alone.{dominanceAlone}
-use Rattle.dominance.specs.Walk.{Tells, wholeJudged}
-
--- no more results are declared than lists have entries
-sum-less : (f g : ℕ → ℕ) → ((i : ℕ) → f i ≤ g i) → (n : ℕ) → sumBelow f n ≤ sum g n
-sum-less f g h zero = omega arith
-sum-less f g h (suc n) = omega (arith, sum-less f g h n, h n)
+use Rattle.dominance.specs.Walk.{wholeJudged}
 
 module _ (x : Tables) (e : tableChecks x ≡ Accepted) where
-  few-results : declaredIn x (x .counts .operations) ≤ maxEntries
-  few-results =
-      let s = sum-less (λ j. length (resultTypes x j)) (listedByOperation x)
-      (λ i. let q = passes-1 x e .result-types-whole i in omega (arith, q)) (x .counts .operations) in
-      omega (arith, s, passes-1 x e .entries-fit)
-
   -- a stack with an entry for each value
   pub room : x .counts .values ≤ length {A = ℕ} (replicate maxValues 0)
   room = omega (arith, length-replicate {A = ℕ} maxValues 0, passes-1 x e .values-fit)
 
   pub few-room : x .counts .values ≤ 512 → x .counts .values ≤ length {A = ℕ} (replicate 512 0)
   few-room h = omega (arith, length-replicate {A = ℕ} 512 0, h)
-
-  -- the cells from zeros
-  pub tells : (bases claims : List ℕ) → bases ≡ basesAfter x (replicate maxOperations 0) → claims ≡ claimsAfter x bases (replicate maxEntries 0)
-      → Tells x bases claims
-  tells bases claims eb ec i k h =
-      rw (ec, eb)
-      (value-at x (replicate maxOperations 0) (replicate maxEntries 0) few-results
-      (omega (arith, length-replicate {A = ℕ} maxOperations 0, passes-1 x e .operations-fit))
-      (omega (arith, length-replicate {A = ℕ} maxEntries 0, few-results))
-      (λ j g. getD-replicate maxEntries j 0 0 (omega (arith, few-results))) i k h)
 
   -- codes 1 and 2
   apart : Apart x

@@ -14,6 +14,7 @@ ghost use Rattle.scope.specs.Stack.{seeAll, Shows};
 ghost use Rattle.dominance.specs.Alone.{dominanceAlone};
 ghost use Rattle.dominance.specs.Walk.{Tells, Level, Went, after, regionJudged, blockJudged, operationJudged, regionsJudged, functionJudged, wholeJudged};
 use scope::Scope;
+use table_checks::Checked;
 use tables::Answer;
 use tables::Counts;
 use tables::Refusal;
@@ -334,8 +335,8 @@ fn walk_few(
     visit_functions(o, b, r, f, l, n, bases, claims, &mut dense, &mut sparse)
 }
 
-// The walk, where 1 to 4 passed and the cells hold the claims.
-fn walk_claimed(
+// For a caller that has asked 1 to 4 and hands on the claims.
+pub fn after_checks(
     o: &[u32],
     b: &[u32],
     r: &[u32],
@@ -355,25 +356,6 @@ fn walk_claimed(
     visit_functions(o, b, r, f, l, n, bases, claims, &mut dense, &mut sparse)
 }
 
-// For a caller that has asked 1 to 4.
-pub fn after_checks(
-    v: &[u64],
-    o: &[u32],
-    b: &[u32],
-    r: &[u32],
-    f: &[u32],
-    l: &[u64],
-    n: Counts,
-) -> Answer
-    ensures { λ w. ⌜ ((t a : List ℕ) → let x = lent t (now (v .entry)) (now (o .entry)) a (now (b .entry)) (now (r .entry)) (now (f .entry)) (now (l .entry)) n in tableChecks x ≡ Answer.Accepted → w ≡ visibleAll x) ⌝ }
-{
-    let mut bases = [0u64; 2048];
-    values::fill_bases(o, l, n, &mut bases);
-    let mut claims = [0u64; 8192];
-    values::fill_claims(o, l, v, n, &bases, &mut claims);
-    walk_claimed(o, b, r, f, l, n, &bases, &claims)
-}
-
 // The first operand that is not visible, after 1 to 4.
 pub fn dominance(
     t: &[u64],
@@ -388,10 +370,25 @@ pub fn dominance(
 ) -> Answer
     ensures { λ w. ⌜ w ≡ dominanceAlone (lent (now (t .entry)) (now (v .entry)) (now (o .entry)) (now (a .entry)) (now (b .entry)) (now (r .entry)) (now (f .entry)) (now (l .entry)) n) ⌝ }
 {
+    // The walk order is not asked for.
+    let mut order = [0u64; 0];
     let mut bases = [0u64; 2048];
     let mut claims = [0u64; 8192];
-    match table_checks::claim_tables(t, v, o, a, b, r, f, l, n, &mut bases, &mut claims) {
-        Answer::Accepted => walk_claimed(o, b, r, f, l, n, &bases, &claims),
-        Answer::Refused(why) => Answer::Refused(why),
+    match table_checks::check_tables(
+        t,
+        v,
+        o,
+        a,
+        b,
+        r,
+        f,
+        l,
+        n,
+        &mut order,
+        &mut bases,
+        &mut claims,
+    ) {
+        Checked::Fine(_) => after_checks(o, b, r, f, l, n, &bases, &claims),
+        Checked::Refused(why) => Answer::Refused(why),
     }
 }

@@ -196,8 +196,24 @@ fn tables_alone(
     if let Answer::Refused(why) = table_checks::check_target(g) {
         return Answer::Refused(why);
     }
-    let mut order = [0u64; 2048];
-    match table_checks::check_tables(t, v, o, a, b, r, f, l, n, &mut order) {
+    // Neither the walk order nor the claims are asked for.
+    let mut order = [0u64; 0];
+    let mut bases = [0u64; 0];
+    let mut claims = [0u64; 0];
+    match table_checks::check_tables(
+        t,
+        v,
+        o,
+        a,
+        b,
+        r,
+        f,
+        l,
+        n,
+        &mut order,
+        &mut bases,
+        &mut claims,
+    ) {
         Checked::Fine(_) => Answer::Accepted,
         Checked::Refused(why) => Answer::Refused(why),
     }

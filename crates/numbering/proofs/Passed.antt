@@ -1,25 +1,18 @@
--- What accepted tables give the walk: the cells tell the values of declared results, the stack takes up all that becomes live as it stands,
--- and the lists have room. Assumes nothing.
-use Prim.Native.Nat.{ℕ, zero, suc, _≤_}
+-- What accepted tables give the walk: the stack takes up all that becomes live as it stands, and the lists have room. Assumes nothing.
+use Prim.Native.Nat.{ℕ, _≤_}
 use native.Mathlib.Omega.{arith}
 use mathlib.Core.Path.{_≡_, sym, ap, _∙_}
 use mathlib.Core.Logic.{⊎-elim}
 use mathlib.Core.List.{List, map}
-use lib.ListN.{length, take, drop, replicate, length-replicate, getD-replicate, length-map}
+use lib.ListN.{length, take, drop, replicate, length-replicate, length-map}
 use lib.Seq.{take-append-seam}
 use Rattle.cells.specs.Lists.{below, count}
 use Rattle.cells.proofs.Rows.{lt-or-ge}
-use Rattle.tables.specs.Sizes.{maxValues, maxOperations, maxEntries, maxFunctions}
-use Rattle.tables.specs.Tables.{Tables, functions, arguments, resultTypes}
-use Rattle.tables.specs.Answer.{andThen}
-use Rattle.tables.specs.declared.Answer.{Answer}
+use Rattle.tables.specs.Sizes.{maxValues, maxEntries, maxFunctions}
+use Rattle.tables.specs.Tables.{Tables, functions, arguments}
 use Rattle.tables.specs.declared.Answer.the-variants.{Accepted, Refused as No}
 use Rattle.tables.specs.declared.Refusal.{Refusal}
-use Rattle.ranges.specs.Range.{sum, listedByOperation, tableRanges, sheetRange}
-use Rattle.values.specs.Results.{sumBelow, declaredIn}
-use Rattle.values.specs.Claims.{basesAfter, claimsAfter}
-use Rattle.values.proofs.Laws.{value-at}
-use Rattle.table_checks.specs.Checks.{afterRanges, tableChecks, sheetChecks}
+use Rattle.table_checks.specs.Checks.{tableChecks, sheetChecks}
 use Rattle.table_checks.proofs.Laws.{passes-1, passes-4}
 use Rattle.table_checks.proofs.Reach.{operations-once, blocks-once, regions-once, flat-past}
 use Rattle.nesting.specs.Passed.{Apart, Single, allArguments}
@@ -28,24 +21,12 @@ use Rattle.nesting.proofs.Theorems.{stack-numbering}
 use Rattle.scope.specs.Stack.{seeAll}
 use Rattle.scope.proofs.Laws.{grows}
 use Rattle.numbering.specs.Alone.{size, sizes, Outcome, outcome, over, handedOver, handed, filledBy, numberingAlone}
-use Rattle.numbering_walk.specs.Walk.{Tells}
 use Rattle.numbering.specs.Fill.{Room, Told, entriesNumbered}
 use Rattle.numbering.specs.declared.Numbered.{Numbered}
 use Rattle.numbering.specs.declared.Numbered.the-variants.{Written, Refused}
 use Rattle.numbering.proofs.Sizes.{all-fit}
 
--- no more results are declared than lists have entries
-sum-less : (f g : ℕ → ℕ) → ((i : ℕ) → f i ≤ g i) → (n : ℕ) → sumBelow f n ≤ sum g n
-sum-less f g h zero = omega arith
-sum-less f g h (suc n) = omega (arith, sum-less f g h n, h n)
-
 module _ (x : Tables) (e : tableChecks x ≡ Accepted) where
-  few-results : declaredIn x (x .counts .operations) ≤ maxEntries
-  few-results =
-      let s = sum-less (λ j. length (resultTypes x j)) (listedByOperation x)
-      (λ i. let q = passes-1 x e .result-types-whole i in omega (arith, q)) (x .counts .operations) in
-      omega (arith, s, passes-1 x e .entries-fit)
-
   -- a stack with an entry for each value, and lists of the full sizes
   room-of : (k : ℕ) → x .counts .values ≤ k → (numbers lengths : List ℕ) → maxEntries ≤ length numbers → maxFunctions ≤ length lengths
       → Room x (replicate k 0) (replicate k 0) numbers lengths
@@ -63,16 +44,6 @@ module _ (x : Tables) (e : tableChecks x ≡ Accepted) where
   pub few-room : x .counts .values ≤ 512 → (numbers lengths : List ℕ) → maxEntries ≤ length numbers → maxFunctions ≤ length lengths
       → Room x (replicate 512 0) (replicate 512 0) numbers lengths
   few-room = room-of 512
-
-  -- the cells from zeros
-  pub tells : (bases claims : List ℕ) → bases ≡ basesAfter x (replicate maxOperations 0) → claims ≡ claimsAfter x bases (replicate maxEntries 0)
-      → Tells x bases claims
-  tells bases claims eb ec i k h =
-      rw (ec, eb)
-      (value-at x (replicate maxOperations 0) (replicate maxEntries 0) few-results
-      (omega (arith, length-replicate {A = ℕ} maxOperations 0, passes-1 x e .operations-fit))
-      (omega (arith, length-replicate {A = ℕ} maxEntries 0, few-results))
-      (λ j g. getD-replicate maxEntries j 0 0 (omega (arith, few-results))) i k h)
 
   -- codes 1 and 2
   apart : Apart x
@@ -114,15 +85,6 @@ module _ (a : Listing ℕ) (ns numbers lengths numbers₀ lengths₀ : List ℕ)
       rw (q, en, el)
 
 -- ---- called alone
-
-both : (a b c : Answer) → andThen a (andThen b c) ≡ Accepted → andThen a c ≡ Accepted
-both (No r) b c e = e
-both Accepted (No r) c e = absurd (let z : _≡_ {A = ℕ} 0 1 = cc in omega arith)
-both Accepted Accepted c e = e
-
-pub sheet-tables : (sheet : List ℕ) (x : Tables) → sheetChecks sheet x ≡ Accepted → tableChecks x ≡ Accepted
-unfolding sheetChecks tableChecks
-sheet-tables sheet x e = both (tableRanges x) (sheetRange sheet) (afterRanges x) e
 
 pub alone-stops : (sheet : List ℕ) (x : Tables) (numbers lengths : List ℕ) {why : Refusal} → sheetChecks sheet x ≡ No why
     → outcome (Refused why) numbers lengths ≡ numberingAlone sheet x numbers lengths

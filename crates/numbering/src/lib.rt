@@ -13,6 +13,7 @@ ghost use Rattle.numbering.specs.Alone.{outcome, sizes, filledBy, handed
 ghost use Rattle.numbering.specs.Fill.{Room, Told, entriesNumbered};
 use cells::Span;
 use numbering_walk::Walked;
+use table_checks::Checked;
 use tables::Answer;
 use tables::Counts;
 use tables::Refusal;
@@ -153,8 +154,8 @@ fn visit_all(
     )
 }
 
-// The same; a refusal leaves both lists all zero.
-fn walk_claimed(
+// For a caller that has asked 1 to 4, hands on the claims and lends room for every list; a refusal leaves both lists all zero.
+pub fn after_checks(
     o: &[u32],
     b: &[u32],
     r: &[u32],
@@ -177,28 +178,6 @@ fn walk_claimed(
             Numbered::Refused(why)
         }
     }
-}
-
-// For a caller that has asked 1 to 4 and lends room for every list; a refusal leaves both lists all zero.
-pub fn after_checks(
-    v: &[u64],
-    o: &[u32],
-    b: &[u32],
-    r: &[u32],
-    f: &[u32],
-    l: &[u64],
-    n: Counts,
-    sheet: &[u64],
-    numbers: &mut [u64],
-    lengths: &mut [u64],
-) -> Numbered
-    ensures { λ w. ⌜ ((t a : List ℕ) → let x = lent t (now (v .entry)) (now (o .entry)) a (now (b .entry)) (now (r .entry)) (now (f .entry)) (now (l .entry)) n in tableChecks x ≡ Answer.Accepted → maxEntries ≤ length (now (numbers .entry)) → maxFunctions ≤ length (now (lengths .entry)) → outcome w (now (numbers .exit)) (now (lengths .exit)) ≡ filledBy (numbersOf (now (sheet .entry)) x) (sizes x) (now (numbers .entry)) (now (lengths .entry))) ⌝ }
-{
-    let mut bases = [0u64; 2048];
-    values::fill_bases(o, l, n, &mut bases);
-    let mut claims = [0u64; 8192];
-    values::fill_claims(o, l, v, n, &bases, &mut claims);
-    walk_claimed(o, b, r, f, l, n, sheet, &bases, &claims, numbers, lengths)
 }
 
 // The front of both lists goes to the lent ones, where both have room.
@@ -258,9 +237,11 @@ pub fn numbering(
 ) -> Numbered
     ensures { λ w. ⌜ outcome w (now (numbers .exit)) (now (lengths .exit)) ≡ numberingAlone (now (sheet .entry)) (lent (now (t .entry)) (now (v .entry)) (now (o .entry)) (now (a .entry)) (now (b .entry)) (now (r .entry)) (now (f .entry)) (now (l .entry)) n) (now (numbers .entry)) (now (lengths .entry)) ⌝ }
 {
+    // The walk order is not asked for.
+    let mut order = [0u64; 0];
     let mut bases = [0u64; 2048];
     let mut claims = [0u64; 8192];
-    match table_checks::claim_with_sheet(
+    match table_checks::check_with_sheet(
         t,
         v,
         o,
@@ -271,14 +252,15 @@ pub fn numbering(
         l,
         sheet,
         n,
+        &mut order,
         &mut bases,
         &mut claims,
     ) {
-        Answer::Refused(why) => Numbered::Refused(why),
-        Answer::Accepted => {
+        Checked::Refused(why) => Numbered::Refused(why),
+        Checked::Fine(_) => {
             let mut all = [0u64; 8192];
             let mut each = [0u64; 64];
-            match walk_claimed(
+            match after_checks(
                 o,
                 b,
                 r,

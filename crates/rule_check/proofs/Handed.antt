@@ -2,7 +2,6 @@
 -- the part called alone, by what the checks answered.
 -- Assumes nothing.
 use Prim.Native.Nat.{ℕ, _≤_}
-use native.Mathlib.Omega.{arith}
 use mathlib.Core.Path.{_≡_, sym, ap, _∙_}
 use mathlib.Core.List.{List}
 use lib.ListN.{length, take}
@@ -13,34 +12,23 @@ use Rattle.tables.specs.declared.Answer.{Answer}
 use Rattle.tables.specs.declared.Refusal.{Refusal}
 use Rattle.tables.specs.declared.Target.{Target}
 use Rattle.tables.specs.declared.Answer.the-variants.{Accepted, Refused}
-use Rattle.ranges.specs.Range.{tableRanges, sheetRange}
 use Rattle.walk.specs.Order.{order}
-use Rattle.table_checks.specs.Checks.{targetCheck, afterRanges, tableChecks, sheetChecks}
-use Rattle.table_checks.specs.Checked.{answerOf, Settles}
+use Rattle.table_checks.specs.Checks.{targetCheck, sheetChecks}
+use Rattle.table_checks.specs.Checked.{Settles}
 use Rattle.table_checks.specs.declared.Checked.{Checked}
 use Rattle.table_checks.specs.declared.Checked.the-variants.{Fine, Refused as refused}
+use Rattle.table_checks.proofs.Laws.{tables-pass}
 use Rattle.table_checks.proofs.Turn.{settles-as, stops, passes}
-use Rattle.table_checks.proofs.Handed.{refused-is, order-is}
+use Rattle.table_checks.proofs.Handed.{refused-is, fine-is, order-is}
 use Rattle.rules.specs.Operation.{rules}
 use Rattle.rule_check.specs.Alone.{rulesAlone}
 
--- of three in turn, all accept: so do the first and the last
-outer : (p q r : Answer) → andThen p (andThen q r) ≡ Accepted → andThen p r ≡ Accepted
-outer Accepted Accepted r e = e
-outer Accepted (Refused why) r e = absurd (let z : _≡_ {A = ℕ} 0 1 = cc in omega arith)
-outer (Refused why) q r e = e
-
-module _ (sheet : List ℕ) (x : Tables) where
-  pub tables-pass : sheetChecks sheet x ≡ Accepted → tableChecks x ≡ Accepted
-  unfolding sheetChecks tableChecks
-  tables-pass e = outer (tableRanges x) (sheetRange sheet) (afterRanges x) e
-
-  module _ {after before : List ℕ} (w : Checked) (m : ℕ) (e : w ≡ Fine m) (h : Settles w after before (sheetChecks sheet x) (order x)) where
-    pub sheet-fine : sheetChecks sheet x ≡ Accepted
-    sheet-fine = sym (h .answer) ∙ ap answerOf e
-
-    pub sheet-order : maxOperations ≤ length before → take m after ≡ order x
-    sheet-order room = order-is x w m e (settles-as (sheet-fine ∙ sym (tables-pass sheet-fine)) h) room
+module _ (sheet : List ℕ) (x : Tables) {after before : List ℕ} (w : Checked) (m : ℕ) (e : w ≡ Fine m)
+    (h : Settles w after before (sheetChecks sheet x) (order x)) where
+  pub sheet-order : maxOperations ≤ length before → take m after ≡ order x
+  sheet-order room =
+      let passed : sheetChecks sheet x ≡ Accepted = fine-is w m e h in
+      order-is x w m e (settles-as (passed ∙ sym (tables-pass sheet x passed)) h) room
 
 -- the part called alone, by what the code was answered: `got` on the target, then w with the list
 module _ (g : Target) (sheet : List ℕ) (x : Tables) (got : Answer) (t : got ≡ targetCheck g) where
@@ -61,4 +49,4 @@ module _ (g : Target) (sheet : List ℕ) (x : Tables) (got : Answer) (t : got �
     unfolding rulesAlone
     alone-fine m e room =
         ap (rules (g .version) sheet x) (sheet-order sheet x w m e h room)
-        ∙ sym (passes got (targetCheck g) rest t ok ∙ ap (λ (a : Answer). andThen a (rules (g .version) sheet x (order x))) (sheet-fine sheet x w m e h))
+        ∙ sym (passes got (targetCheck g) rest t ok ∙ ap (λ (a : Answer). andThen a (rules (g .version) sheet x (order x))) (fine-is w m e h))

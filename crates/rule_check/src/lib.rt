@@ -56,7 +56,24 @@ pub fn check_alone(
         return Answer::Refused(why);
     }
     let mut list = [0u64; 2048];
-    match table_checks::check_with_sheet(t, v, o, a, b, r, f, l, sheet, n, &mut list) {
+    // The claims are not asked for.
+    let mut bases = [0u64; 0];
+    let mut claims = [0u64; 0];
+    match table_checks::check_with_sheet(
+        t,
+        v,
+        o,
+        a,
+        b,
+        r,
+        f,
+        l,
+        sheet,
+        n,
+        &mut list,
+        &mut bases,
+        &mut claims,
+    ) {
         Checked::Refused(why) => Answer::Refused(why),
         Checked::Fine(m) => after_checks(g, t, v, o, a, l, n, sheet, &list, m),
     }

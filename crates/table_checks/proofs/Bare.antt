@@ -49,7 +49,7 @@ sum-less : (f g : ℕ → ℕ) → ((i : ℕ) → f i ≤ g i) → (n : ℕ) →
 sum-less f g h zero = omega arith
 sum-less f g h (suc n) = omega (arith, sum-less f g h n, h n)
 
-few-results : (x : Tables) → Ranged x → declaredIn x (x .counts .operations) ≤ maxEntries
+pub few-results : (x : Tables) → Ranged x → declaredIn x (x .counts .operations) ≤ maxEntries
 few-results x h =
     let s = sum-less (λ j. length (resultTypes x j)) (listedByOperation x)
     (λ i. let e = h .result-types-whole i in omega (arith, e)) (x .counts .operations) in

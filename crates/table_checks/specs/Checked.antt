@@ -1,4 +1,5 @@
--- What the checks hand on: the answer, and where nothing is refused the reachable operations in walk order.
+-- What the checks hand on: the answer, and where nothing is refused the reachable operations in walk order and the value of each declared
+-- result.
 use Prim.Native.Nat.{ℕ, _≤_}
 use mathlib.Core.Path.{_≡_}
 use mathlib.Core.List.{List}
@@ -11,7 +12,7 @@ use Rattle.listed.specs.Twice.{listedTwice}
 use Rattle.walk.specs.Depth.{tooDeep}
 use Rattle.walk.specs.Written.{filled, walked}
 use Rattle.values.specs.Results.{declaredIn}
-use Rattle.values.specs.Claims.{Filled}
+use Rattle.values.specs.Claims.{Zeros, Filled}
 use Rattle.values.specs.Guarded.{guardedTwice}
 use Rattle.table_checks.specs.declared.Checked.{Checked}
 use Rattle.table_checks.specs.declared.Checked.the-variants.{Fine, Refused as refused}
@@ -34,11 +35,11 @@ pub record Settles (w : Checked) (after before : List ℕ) (a : Answer) (xs : Li
 abbrev pub afterCut : Tables → Answer
 afterCut x = andThen (listedTwice (cut x)) (andThen (tooDeep x) (guardedTwice (cut x)))
 
--- the answer is a; where it accepts, the cells hold the claims of x
-abbrev pub Hands : Answer → Answer → Tables → List ℕ → List ℕ → Type 0
-Hands w a x bases cells = (w ≡ a) × (w ≡ Accepted → Filled x bases cells)
+-- where a accepts, cells that held nothing, `bases₀` and `cells₀` at entry, hold the claims of x
+abbrev pub Hands : Answer → Tables → List ℕ → List ℕ → List ℕ → List ℕ → Type 0
+Hands a x bases₀ cells₀ bases cells = a ≡ Accepted → Zeros bases₀ cells₀ → Filled x bases cells
 
 -- the same after code 1, on counts cut at the sizes
-abbrev pub HandsCut : Answer → Tables → List ℕ → List ℕ → Type 0
-HandsCut w x bases cells =
-    (w ≡ afterCut x) × (w ≡ Accepted → declaredIn (cut x) (cut x .counts .operations) ≤ maxEntries → Filled (cut x) bases cells)
+abbrev pub HandsCut : Tables → List ℕ → List ℕ → List ℕ → List ℕ → Type 0
+HandsCut x bases₀ cells₀ bases cells =
+    afterCut x ≡ Accepted → Zeros bases₀ cells₀ → declaredIn (cut x) (cut x .counts .operations) ≤ maxEntries → Filled (cut x) bases cells

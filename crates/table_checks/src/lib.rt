@@ -1,9 +1,8 @@
-// Codes 16, 1, 2, 3 and 4 in turn, and the reachable operations in walk order for the parts above.
+// Codes 16, 1, 2, 3 and 4 in turn, and for the parts above the reachable operations in walk order and the values of declared results.
 ghost use mathlib.Core.Path.{_≡_};
 ghost use mathlib.Core.List.{List};
 ghost use Prim.Native.Nat.{ℕ};
 ghost use lib.ListN.{length, replicate};
-ghost use Rattle.tables.specs.Sizes.{maxOperations, maxEntries};
 ghost use Rattle.tables.specs.Tables.{lent};
 ghost use Rattle.walk.specs.Order.{order};
 ghost use Rattle.table_checks.specs.Checks.{isVersion, targetCheck, tableChecks, sheetChecks};
@@ -64,8 +63,10 @@ fn after_ranges(
     l: &[u64],
     n: Counts,
     list: &mut [u64],
+    bases: &mut [u64],
+    claims: &mut [u64],
 ) -> Checked
-    ensures { λ w. ⌜ ((t a : List ℕ) → let x = lent t (now (v .entry)) (now (o .entry)) a (now (b .entry)) (now (r .entry)) (now (f .entry)) (now (l .entry)) n in Settles w (now (list .exit)) (now (list .entry)) (afterCut x) (order x)) ⌝ }
+    ensures { λ w. ⌜ ((t a : List ℕ) → let x = lent t (now (v .entry)) (now (o .entry)) a (now (b .entry)) (now (r .entry)) (now (f .entry)) (now (l .entry)) n in Settles w (now (list .exit)) (now (list .entry)) (afterCut x) (order x) × HandsCut x (now (bases .entry)) (now (claims .entry)) (now (bases .exit)) (now (claims .exit))) ⌝ }
 {
     if let Answer::Refused(why) = listed::listed_twice(o, b, r, f, l, n) {
         return refuse(why, list);
@@ -74,7 +75,7 @@ fn after_ranges(
     match walked {
         Walked::Deep(i) => Checked::Refused(Refusal::TooDeep { operation: i }),
         Walked::Fine(m) => {
-            if let Answer::Refused(why) = values::values_twice(o, v, b, l, n) {
+            if let Answer::Refused(why) = values::values_claimed(o, v, b, l, n, bases, claims) {
                 return refuse(why, list);
             }
             Checked::Fine(m)
@@ -82,7 +83,8 @@ fn after_ranges(
     }
 }
 
-// Codes 1 to 4 over tables 1 to 7.
+// Codes 1 to 4 over tables 1 to 7. Where nothing is refused the list has the walk order, and cells of full length that held zeros the claims:
+// a caller that does not want the one or the other lends an empty list for it.
 pub fn check_tables(
     t: &[u64],
     v: &[u64],
@@ -94,13 +96,15 @@ pub fn check_tables(
     l: &[u64],
     n: Counts,
     list: &mut [u64],
+    bases: &mut [u64],
+    claims: &mut [u64],
 ) -> Checked
-    ensures { λ w. ⌜ (let x = lent (now (t .entry)) (now (v .entry)) (now (o .entry)) (now (a .entry)) (now (b .entry)) (now (r .entry)) (now (f .entry)) (now (l .entry)) n in Settles w (now (list .exit)) (now (list .entry)) (tableChecks x) (order x)) ⌝ }
+    ensures { λ w. ⌜ (let x = lent (now (t .entry)) (now (v .entry)) (now (o .entry)) (now (a .entry)) (now (b .entry)) (now (r .entry)) (now (f .entry)) (now (l .entry)) n in Settles w (now (list .exit)) (now (list .entry)) (tableChecks x) (order x) × Hands (tableChecks x) x (now (bases .entry)) (now (claims .entry)) (now (bases .exit)) (now (claims .exit))) ⌝ }
 {
     if let Answer::Refused(why) = ranges::check_tables(t, v, o, a, b, r, f, l, n) {
         return refuse(why, list);
     }
-    after_ranges(v, o, b, r, f, l, n, list)
+    after_ranges(v, o, b, r, f, l, n, list, bases, claims)
 }
 
 // The same with the sheet as table 8.
@@ -116,8 +120,10 @@ pub fn check_with_sheet(
     sheet: &[u64],
     n: Counts,
     list: &mut [u64],
+    bases: &mut [u64],
+    claims: &mut [u64],
 ) -> Checked
-    ensures { λ w. ⌜ (let x = lent (now (t .entry)) (now (v .entry)) (now (o .entry)) (now (a .entry)) (now (b .entry)) (now (r .entry)) (now (f .entry)) (now (l .entry)) n in Settles w (now (list .exit)) (now (list .entry)) (sheetChecks (now (sheet .entry)) x) (order x)) ⌝ }
+    ensures { λ w. ⌜ (let x = lent (now (t .entry)) (now (v .entry)) (now (o .entry)) (now (a .entry)) (now (b .entry)) (now (r .entry)) (now (f .entry)) (now (l .entry)) n in Settles w (now (list .exit)) (now (list .entry)) (sheetChecks (now (sheet .entry)) x) (order x) × Hands (sheetChecks (now (sheet .entry)) x) x (now (bases .entry)) (now (claims .entry)) (now (bases .exit)) (now (claims .exit))) ⌝ }
 {
     if let Answer::Refused(why) = ranges::check_tables(t, v, o, a, b, r, f, l, n) {
         return refuse(why, list);
@@ -125,78 +131,5 @@ pub fn check_with_sheet(
     if let Answer::Refused(why) = ranges::check_sheet(sheet) {
         return refuse(why, list);
     }
-    after_ranges(v, o, b, r, f, l, n, list)
-}
-
-// Codes 2, 3 and 4, and the claims in the lent cells, zeros before.
-fn claim_after_ranges(
-    v: &[u64],
-    o: &[u32],
-    b: &[u32],
-    r: &[u32],
-    f: &[u32],
-    l: &[u64],
-    n: Counts,
-    bases: &mut [u64],
-    claims: &mut [u64],
-) -> Answer
-    ensures { λ w. ⌜ (now (bases .entry) ≡ replicate maxOperations 0 → now (claims .entry) ≡ replicate maxEntries 0 → (t a : List ℕ) → HandsCut w (lent t (now (v .entry)) (now (o .entry)) a (now (b .entry)) (now (r .entry)) (now (f .entry)) (now (l .entry)) n) (now (bases .exit)) (now (claims .exit))) ⌝ }
-{
-    if let Answer::Refused(why) = listed::listed_twice(o, b, r, f, l, n) {
-        return Answer::Refused(why);
-    }
-    // The walk order is not asked for.
-    let mut order = [0u64; 0];
-    match walk::walk_order(o, b, r, f, l, n, &mut order) {
-        Walked::Deep(i) => Answer::Refused(Refusal::TooDeep { operation: i }),
-        Walked::Fine(_) => values::values_claimed(o, v, b, l, n, bases, claims),
-    }
-}
-
-// Codes 1 to 4 over tables 1 to 7, for a walk that asks for the claims: the lent cells, zeros before, hold them where nothing is refused.
-pub fn claim_tables(
-    t: &[u64],
-    v: &[u64],
-    o: &[u32],
-    a: &[u32],
-    b: &[u32],
-    r: &[u32],
-    f: &[u32],
-    l: &[u64],
-    n: Counts,
-    bases: &mut [u64],
-    claims: &mut [u64],
-) -> Answer
-    ensures { λ w. ⌜ (now (bases .entry) ≡ replicate maxOperations 0 → now (claims .entry) ≡ replicate maxEntries 0 → let x = lent (now (t .entry)) (now (v .entry)) (now (o .entry)) (now (a .entry)) (now (b .entry)) (now (r .entry)) (now (f .entry)) (now (l .entry)) n in Hands w (tableChecks x) x (now (bases .exit)) (now (claims .exit))) ⌝ }
-{
-    if let Answer::Refused(why) = ranges::check_tables(t, v, o, a, b, r, f, l, n) {
-        return Answer::Refused(why);
-    }
-    claim_after_ranges(v, o, b, r, f, l, n, bases, claims)
-}
-
-// The same with the sheet as table 8.
-pub fn claim_with_sheet(
-    t: &[u64],
-    v: &[u64],
-    o: &[u32],
-    a: &[u32],
-    b: &[u32],
-    r: &[u32],
-    f: &[u32],
-    l: &[u64],
-    sheet: &[u64],
-    n: Counts,
-    bases: &mut [u64],
-    claims: &mut [u64],
-) -> Answer
-    ensures { λ w. ⌜ (now (bases .entry) ≡ replicate maxOperations 0 → now (claims .entry) ≡ replicate maxEntries 0 → let x = lent (now (t .entry)) (now (v .entry)) (now (o .entry)) (now (a .entry)) (now (b .entry)) (now (r .entry)) (now (f .entry)) (now (l .entry)) n in Hands w (sheetChecks (now (sheet .entry)) x) x (now (bases .exit)) (now (claims .exit))) ⌝ }
-{
-    if let Answer::Refused(why) = ranges::check_tables(t, v, o, a, b, r, f, l, n) {
-        return Answer::Refused(why);
-    }
-    if let Answer::Refused(why) = ranges::check_sheet(sheet) {
-        return Answer::Refused(why);
-    }
-    claim_after_ranges(v, o, b, r, f, l, n, bases, claims)
+    after_ranges(v, o, b, r, f, l, n, list, bases, claims)
 }

@@ -84,9 +84,18 @@ length-claims : (put : ℕ → List ℕ → List ℕ) → ((v : ℕ) (cells : Li
 length-claims put f [] cells = refl
 length-claims put f (v ∷ vs) cells = f v (claimsBy put vs cells) ∙ length-claims put f vs cells
 
-number-cond : (t : Bool) (v : ℕ) (o : Option ℕ) → cond t (v + 1) (numberOf o) ≡ numberOf (cond t (some v) o)
-number-cond true v o = refl
-number-cond false v o = refl
+-- the number of the value, or what the cell held before where there is none
+abbrev pub numberOr : ℕ → Option ℕ → ℕ
+numberOr held none = held
+numberOr held (some v) = v + 1
+
+or-none : (value : Option ℕ) → numberOr 0 value ≡ numberOf value
+or-none none = refl
+or-none (some v) = refl
+
+number-cond : (t : Bool) (v held : ℕ) (o : Option ℕ) → cond t (v + 1) (numberOr held o) ≡ numberOr held (cond t (some v) o)
+number-cond true v held o = refl
+number-cond false v held o = refl
 
 module _ (x : Tables) (bases : List ℕ) (based : (i : ℕ) → i < x .counts .operations → getD bases i 0 ≡ declaredIn x i)
     (i k : ℕ) (h : k < length (resultTypes x i)) where
@@ -123,34 +132,42 @@ module _ (x : Tables) (bases : List ℕ) (based : (i : ℕ) → i < x .counts .o
           omega (arith, ap (λ (j : ℕ). length (resultTypes x j)) p)) in
           rw n
 
-  module _ (cells : List ℕ) (room : declaredIn x (x .counts .operations) ≤ length cells) (none-yet : getD cells (declaredIn x i + k) 0 ≡ 0) where
+  module _ (cells : List ℕ) (room : declaredIn x (x .counts .operations) ≤ length cells) where
+    abbrev held : ℕ
+    held = getD cells (declaredIn x i + k) 0
+
     abbrev put : ℕ → List ℕ → List ℕ
     put v = putClaim (declared x) bases (v + 1) (claim x v)
 
-    claims-at : (s n : ℕ) → getD (claimsBy put (from s n) cells) (declaredIn x i + k) 0 ≡ numberOf (find (λ v. isClaim i k (claim x v)) (from s n))
-    claims-at s zero = none-yet
+    claims-at : (s n : ℕ) → getD (claimsBy put (from s n) cells) (declaredIn x i + k) 0 ≡ numberOr held (find (λ v. isClaim i k (claim x v)) (from s n))
+    claims-at s zero = refl
     claims-at s (suc n) =
         let l : length (claimsBy put (from (suc s) n) cells) ≡ length cells = length-claims put (λ v. length-put (declared x) bases (v + 1) (claim x v)) (from (suc s) n) cells in
         put-at (s + 1) (claim x s) (claimsBy put (from (suc s) n) cells) (omega arith)
         ∙ ap (cond (isClaim i k (claim x s)) (s + 1)) (claims-at (suc s) n)
-        ∙ number-cond (isClaim i k (claim x s)) s (find (λ v. isClaim i k (claim x v)) (from (suc s) n))
+        ∙ number-cond (isClaim i k (claim x s)) s held (find (λ v. isClaim i k (claim x v)) (from (suc s) n))
 
-    -- a declared result's cell holds the number of its value
-    pub claims-tell : getD (claimsAfter x bases cells) (declaredIn x i + k) 0 ≡ numberOf (valueOf x i k)
+    -- a declared result's cell holds the number of its value, if it has one
+    pub claims-tell : getD (claimsAfter x bases cells) (declaredIn x i + k) 0 ≡ numberOr held (valueOf x i k)
     unfolding valueOf
     claims-tell = claims-at 0 (x .counts .values)
 
--- both from zeros: what the code reads at the base of an operation and a result's index
+-- what the code reads at the base of an operation and a result's index
 module _ (x : Tables) (bases cells : List ℕ) (few : declaredIn x (x .counts .operations) ≤ maxEntries)
-    (bases-room : x .counts .operations ≤ length bases) (cells-room : declaredIn x (x .counts .operations) ≤ length cells)
-    (zeros : (j : ℕ) → j < declaredIn x (x .counts .operations) → getD cells j 0 ≡ 0) where
-  pub value-at : (i k : ℕ) → k < length (resultTypes x i)
-      → getD (claimsAfter x (basesAfter x bases) cells) (getD (basesAfter x bases) i 0 + k) 0 ≡ numberOf (valueOf x i k)
-  value-at i k h =
-      let counted : i < x .counts .operations = result-counted x i k h in
-      ap (λ (b : ℕ). getD (claimsAfter x (basesAfter x bases) cells) (b + k) 0) (bases-tell x few bases bases-room i counted)
+    (bases-room : x .counts .operations ≤ length bases) (cells-room : declaredIn x (x .counts .operations) ≤ length cells) where
+  pub cell-at : (i k : ℕ) → k < length (resultTypes x i)
+      → getD (claimsAfter x (basesAfter x bases) cells) (getD (basesAfter x bases) i 0 + k) 0 ≡ numberOr (getD cells (declaredIn x i + k) 0) (valueOf x i k)
+  cell-at i k h =
+      ap (λ (b : ℕ). getD (claimsAfter x (basesAfter x bases) cells) (b + k) 0) (bases-tell x few bases bases-room i (result-counted x i k h))
       ∙ claims-tell x (basesAfter x bases) (bases-tell x few bases bases-room) i k h cells cells-room
-      (zeros (declaredIn x i + k) (result-before x i k (x .counts .operations) h counted))
+
+  -- the same from zeros
+  pub value-at : ((j : ℕ) → j < declaredIn x (x .counts .operations) → getD cells j 0 ≡ 0) → (i k : ℕ) → k < length (resultTypes x i)
+      → getD (claimsAfter x (basesAfter x bases) cells) (getD (basesAfter x bases) i 0 + k) 0 ≡ numberOf (valueOf x i k)
+  value-at zeros i k h =
+      cell-at i k h
+      ∙ ap (λ (d : ℕ). numberOr d (valueOf x i k)) (zeros (declaredIn x i + k) (result-before x i k (x .counts .operations) h (result-counted x i k h)))
+      ∙ or-none (valueOf x i k)
 
 -- ---- where code 4 passes
 

@@ -44,6 +44,10 @@ abbrev pub numberOf : Option ℕ → ℕ
 numberOf none = 0
 numberOf (some v) = v + 1
 
+-- cells of full length that hold nothing yet
+abbrev pub Zeros : List ℕ → List ℕ → Type 0
+Zeros bases cells = (bases ≡ replicate maxOperations 0) × (cells ≡ replicate maxEntries 0)
+
 -- the cells as they are filled from zeros
 abbrev pub Filled : Tables → List ℕ → List ℕ → Type 0
 Filled x bases cells = (bases ≡ basesAfter x (replicate maxOperations 0)) × (cells ≡ claimsAfter x bases (replicate maxEntries 0))

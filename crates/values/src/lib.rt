@@ -1,8 +1,8 @@
 // Code 4: the lowest value that is defined twice; and the values of declared results, found in one pass over the values.
 ghost use mathlib.Core.Path.{_≡_};
 ghost use mathlib.Core.List.{[]};
-ghost use Prim.Native.Nat.{_+_, min};
-ghost use lib.ListN.{length, getD, replicate};
+ghost use Prim.Native.Nat.{_+_, _≤_, min};
+ghost use lib.ListN.{length, getD};
 ghost use Rattle.cells.specs.Lists.{below, flat};
 ghost use Rattle.tables.specs.Layout.{argumentsIn, resultTypesIn};
 ghost use Rattle.tables.specs.Sizes.{maxOperations, maxEntries};
@@ -38,7 +38,7 @@ fn result_count(o: &[u32], l: &[u64], n: Counts, operation: u64) -> u64
 }
 
 // Where the results of each operation start among all, and how many there are.
-pub fn fill_bases(o: &[u32], l: &[u64], n: Counts, bases: &mut [u64]) -> u64
+fn fill_bases(o: &[u32], l: &[u64], n: Counts, bases: &mut [u64]) -> u64
     ensures total { λ r. ⌜ r ≡ baseOf (lent [] [] (now (o .entry)) [] [] [] [] (now (l .entry)) n) (n .operations) ⌝ }
     ensures written { λ _. ⌜ now (bases .exit) ≡ basesAfter (lent [] [] (now (o .entry)) [] [] [] [] (now (l .entry)) n) (now (bases .entry)) ⌝ }
 {
@@ -74,7 +74,7 @@ fn put_claim(
 }
 
 // One more than the lowest value that claims it, for each declared result that is claimed.
-pub fn fill_claims(o: &[u32], l: &[u64], v: &[u64], n: Counts, bases: &[u64], claims: &mut [u64])
+fn fill_claims(o: &[u32], l: &[u64], v: &[u64], n: Counts, bases: &[u64], claims: &mut [u64])
     ensures { λ _. ⌜ now (claims .exit) ≡ claimsAfter (lent [] (now (v .entry)) (now (o .entry)) [] [] [] [] (now (l .entry)) n) (now (bases .entry)) (now (claims .entry)) ⌝ }
 {
     let mut number = n.values;
@@ -155,9 +155,9 @@ fn lowest_seen(
     Answer::Accepted
 }
 
-// The lowest value that is defined twice; the lent cells, zeros before, keep where results start and which value claims each. Where code 1
-// passed, no more results are declared than there may be list entries.
-pub fn values_claimed(
+// The lowest value that is defined twice, where the lent cells have room. Where code 1 passed, no more results are declared than there may
+// be list entries.
+fn claim_values(
     o: &[u32],
     v: &[u64],
     b: &[u32],
@@ -166,7 +166,7 @@ pub fn values_claimed(
     bases: &mut [u64],
     claims: &mut [u64],
 ) -> Answer
-    ensures { λ r. ⌜ (now (bases .entry) ≡ replicate maxOperations 0 → now (claims .entry) ≡ replicate maxEntries 0 → Claimed r (cut (lent [] (now (v .entry)) (now (o .entry)) [] (now (b .entry)) [] [] (now (l .entry)) n)) (now (bases .exit)) (now (claims .exit))) ⌝ }
+    ensures { λ r. ⌜ (maxOperations ≤ length (now (bases .entry)) → maxEntries ≤ length (now (claims .entry)) → Claimed r (cut (lent [] (now (v .entry)) (now (o .entry)) [] (now (b .entry)) [] [] (now (l .entry)) n)) (now (bases .entry)) (now (claims .entry)) (now (bases .exit)) (now (claims .exit))) ⌝ }
 {
     let m = tables::cut_counts(n);
     let total = fill_bases(o, l, m, bases);
@@ -179,11 +179,33 @@ pub fn values_claimed(
     lowest_seen(o, l, v, m, &marks, bases, claims)
 }
 
-// The same with cells of its own.
-pub fn values_twice(o: &[u32], v: &[u64], b: &[u32], l: &[u64], n: Counts) -> Answer
+// The answer alone, with cells of its own.
+fn answer_alone(o: &[u32], v: &[u64], b: &[u32], l: &[u64], n: Counts) -> Answer
     ensures { λ r. ⌜ r ≡ guardedTwice (cut (lent [] (now (v .entry)) (now (o .entry)) [] (now (b .entry)) [] [] (now (l .entry)) n)) ⌝ }
 {
     let mut bases = [0u64; 2048];
     let mut claims = [0u64; 8192];
-    values_claimed(o, v, b, l, n, &mut bases, &mut claims)
+    claim_values(o, v, b, l, n, &mut bases, &mut claims)
+}
+
+// The lowest value that is defined twice, whatever is lent; cells of full length that held zeros keep where results start and which value
+// claims each.
+pub fn values_claimed(
+    o: &[u32],
+    v: &[u64],
+    b: &[u32],
+    l: &[u64],
+    n: Counts,
+    bases: &mut [u64],
+    claims: &mut [u64],
+) -> Answer
+    ensures { λ r. ⌜ Claimed r (cut (lent [] (now (v .entry)) (now (o .entry)) [] (now (b .entry)) [] [] (now (l .entry)) n)) (now (bases .entry)) (now (claims .entry)) (now (bases .exit)) (now (claims .exit)) ⌝ }
+{
+    if (bases.len() as u64) < tables::MAX_OPERATIONS {
+        return answer_alone(o, v, b, l, n);
+    }
+    if (claims.len() as u64) < tables::MAX_ENTRIES {
+        return answer_alone(o, v, b, l, n);
+    }
+    claim_values(o, v, b, l, n, bases, claims)
 }

@@ -13,6 +13,12 @@ counts-of-requires c κs = search needs
 slice-aggregate-check-tables : tie.Need-slice-aggregate-check-tables
 slice-aggregate-check-tables c = search needs
 
+slice-aggregate-check-tables-2 : tie.Need-slice-aggregate-check-tables-2
+slice-aggregate-check-tables-2 c = search needs
+
+slice-aggregate-check-tables-3 : tie.Need-slice-aggregate-check-tables-3
+slice-aggregate-check-tables-3 c = search needs
+
 check-tables-requires : tie.Need-check-tables-requires
 check-tables-requires c κs = search needs
 
@@ -24,8 +30,8 @@ same-length c = search needs
 
 returns : tie.Need-returns
 returns c =
-    let p = c .before .before .before .before .before .before .before .before .before .before .before .before .before .before .before .before .before .before .args in
-    answer-noted (λ (m : Counts). tableChecks (lent (p .t .now) (p .v .now) (p .o .now) (p .a .now) (p .b .now) (p .r .now) (p .f .now) (p .l .now) m)) (p .answer .now) (c .before .before .note-checked .ensures) (c .before .before .before .before .before .check-tables .ensures .answer) (c .before .before .before .before .before .before .before .counts-of .ensures)
+    let p = c .before .before .before .before .before .before .before .before .before .before .before .before .before .before .before .before .before .before .before .before .before .before .args in
+    answer-noted (λ (m : Counts). tableChecks (lent (p .t .now) (p .v .now) (p .o .now) (p .a .now) (p .b .now) (p .r .now) (p .f .now) (p .l .now) m)) (p .answer .now) (c .before .before .note-checked .ensures) (c .before .before .before .before .before .before .before .check-tables .ensures .0 .answer) (c .before .before .before .before .before .before .before .before .before .before .before .counts-of .ensures)
 
 pub lavrindes-check-tables-spec : {M : Type 1} → statement M
 lavrindes-check-tables-spec =
@@ -33,6 +39,8 @@ lavrindes-check-tables-spec =
     (tie.spec
     counts-of-requires
     slice-aggregate-check-tables
+    slice-aggregate-check-tables-2
+    slice-aggregate-check-tables-3
     check-tables-requires
     note-checked-requires
     same-length

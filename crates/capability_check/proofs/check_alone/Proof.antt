@@ -35,6 +35,12 @@ enum-told c = search needs
 slice-aggregate-check-tables : tie.Need-slice-aggregate-check-tables
 slice-aggregate-check-tables c = search needs
 
+slice-aggregate-check-tables-2 : tie.Need-slice-aggregate-check-tables-2
+slice-aggregate-check-tables-2 c = search needs
+
+slice-aggregate-check-tables-3 : tie.Need-slice-aggregate-check-tables-3
+slice-aggregate-check-tables-3 c = search needs
+
 check-tables-requires : tie.Need-check-tables-requires
 check-tables-requires c κs = search needs
 
@@ -56,28 +62,28 @@ check-capabilities-requires c κs = search needs
 returns-2 : tie.Need-returns-2
 unfolding capabilitiesAlone
 returns-2 c =
-    let p = c .before .before .before .before .before .before .before .before .before .before .before .before .before .before .before .before .before .args in
+    let p = c .before .before .before .before .before .before .before .before .before .before .before .before .before .before .before .before .before .before .before .before .before .args in
     let x = lent (p .t .now) (p .v .now) (p .o .now) (p .a .now) (p .b .now) (p .r .now) (p .f .now) (p .l .now) (p .n) in
     let rest = andThen (tableChecks x) (capabilities (p .g) x (order x)) in
-    let h = c .before .before .before .before .check-tables .ensures in
+    let h = c .before .before .before .before .before .before .check-tables .ensures .0 in
     sym
-    (passes _ (targetCheck (p .g)) rest (c .before .before .before .before .before .before .before .before .check-target .ensures) (c .before .before .before .before .before .before .enum-told .given .1)
+    (passes _ (targetCheck (p .g)) rest (c .before .before .before .before .before .before .before .before .before .before .before .before .check-target .ensures) (c .before .before .before .before .before .before .before .before .before .before .enum-told .given .1)
     ∙ ap (λ (a : Answer). andThen a (capabilities (p .g) x (order x))) (refused-is _ _ (c .before .why2 .given .1) h))
 
 returns-3 : tie.Need-returns-3
 unfolding capabilitiesAlone
 returns-3 c =
-    let p = c .before .before .before .before .before .before .before .before .before .before .before .before .before .before .before .before .before .before .before .before .args in
+    let p = c .before .before .before .before .before .before .before .before .before .before .before .before .before .before .before .before .before .before .before .before .before .before .before .before .args in
     let x = lent (p .t .now) (p .v .now) (p .o .now) (p .a .now) (p .b .now) (p .r .now) (p .f .now) (p .l .now) (p .n) in
     let rest = andThen (tableChecks x) (capabilities (p .g) x (order x)) in
-    let h = c .before .before .before .before .before .before .before .check-tables .ensures in
+    let h = c .before .before .before .before .before .before .before .before .before .check-tables .ensures .0 in
     let e = c .before .before .before .before .m .given .1 in
     let list = c .before .entries .ensures ∙ order-is x _ _ e h (omega arith) in
     c .check-capabilities .ensures
     ∙ bare-order (p .g) x _ (order x) list
     ∙ sym
-    (passes _ (targetCheck (p .g)) rest (c .before .before .before .before .before .before .before .before .before .before .before .check-target .ensures) (c .before .before .before .before .before .before .before .before .before .enum-told .given .1)
-    ∙ ap (λ (a : Answer). andThen a (capabilities (p .g) x (order x))) (fine-is x _ _ e h))
+    (passes _ (targetCheck (p .g)) rest (c .before .before .before .before .before .before .before .before .before .before .before .before .before .before .before .check-target .ensures) (c .before .before .before .before .before .before .before .before .before .before .before .before .before .enum-told .given .1)
+    ∙ ap (λ (a : Answer). andThen a (capabilities (p .g) x (order x))) (fine-is _ _ e h))
 
 pub check-alone-spec : {M : Type 1} → statement M
 check-alone-spec =
@@ -88,6 +94,8 @@ check-alone-spec =
     returns
     enum-told
     slice-aggregate-check-tables
+    slice-aggregate-check-tables-2
+    slice-aggregate-check-tables-3
     check-tables-requires
     enum-known-why-2
     enum-known-m

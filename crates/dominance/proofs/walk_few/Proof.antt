@@ -1,7 +1,8 @@
 -- `walk_few`: the walk over a stack from zeros. Assumes nothing.
 use mathlib.Core.Path.{_∙_}
 use Rattle.tables.specs.Tables.{lent}
-use Rattle.dominance.proofs.Passed.{few-room, tells, walk-is}
+use Rattle.table_checks.proofs.Handed.{claims-tell}
+use Rattle.dominance.proofs.Passed.{few-room, walk-is}
 use borrow.Author.Needs.{needs}
 use Rattle.dominance.proofs.walk_few.Statement.{statement}
 use Rattle.dominance.proofs.walk_few.Tie as tie
@@ -20,7 +21,7 @@ returns c =
     let a = c .before .before .before .before .before .before .before .before .before .before .before .before .args in
     λ t v e passed filled few.
     let x = lent t v (a .o .now) e (a .b .now) (a .r .now) (a .f .now) (a .l .now) (a .n) in
-    c .before .before .visit-functions .ensures t v e (tells x passed _ _ (filled .0) (filled .1)) (few-room x passed few) (few-room x passed few)
+    c .before .before .visit-functions .ensures t v e (claims-tell x passed _ _ filled) (few-room x passed few) (few-room x passed few)
     ∙ walk-is x passed
 
 pub walk-few-spec : {M : Type 1} → statement M

@@ -13,62 +13,51 @@ use borrow.Author.Needs.{needs}
 use Rattle.full_check.proofs.after_checks.Statement.{statement}
 use Rattle.full_check.proofs.after_checks.Tie as tie
 
--- src/lib.rt:59:35
 after-checks-requires : tie.Need-after-checks-requires
 after-checks-requires c κs = search needs
 
--- src/lib.rt:59:28
 enum-known-why : tie.Need-enum-known-why
 enum-known-why c = search needs
 
--- src/lib.rt:60:9
 returns : tie.Need-returns
-returns c = λ e q.
-    let p = c .before .before .before .before .before .before .before .before .before .before .before .before .before .before .before .before .args in
+returns c = λ e q claimed.
+    let p = c .before .before .before .before .before .before .before .before .before .before .before .before .before .before .before .before .before .before .args in
     let x = lent (p .t .now) (p .v .now) (p .o .now) (p .a .now) (p .b .now) (p .r .now) (p .f .now) (p .l .now) (p .n) in
     let rest = handed (numbering (p .sheet .now) x) (sizes x) (p .numbers .now) (p .lengths .now) in
     dominance-stops (p .g) (p .sheet .now) x rest (p .numbers .now) (p .lengths .now)
-    (sym (c .before .before .before .after-checks .ensures (p .t .now) (p .a .now) e) ∙ c .before .why .given .1)
+    (sym (c .before .before .before .after-checks .ensures (p .t .now) (p .v .now) (p .a .now) e claimed) ∙ c .before .why .given .1)
 
 enum-told : tie.Need-enum-told
 enum-told c = search needs
 
--- src/lib.rt:64:63
 slice-aggregate-after-checks : tie.Need-slice-aggregate-after-checks
 slice-aggregate-after-checks c = search needs
 
--- src/lib.rt:64:73
 slice-aggregate-after-checks-2 : tie.Need-slice-aggregate-after-checks-2
 slice-aggregate-after-checks-2 c = search needs
 
--- src/lib.rt:64:11
 after-checks-requires-2 : tie.Need-after-checks-requires-2
 after-checks-requires-2 c κs = search needs
 
--- src/lib.rt:65:27
 enum-known-why-2 : tie.Need-enum-known-why-2
 enum-known-why-2 c = search needs
 
--- src/lib.rt:66:29
 enum-known-count : tie.Need-enum-known-count
 enum-known-count c = search needs
 
--- src/lib.rt:67:43
 over-operations-requires : tie.Need-over-operations-requires
 over-operations-requires c κs = search needs
 
--- src/lib.rt:67:36
 enum-known-why-3 : tie.Need-enum-known-why-3
 enum-known-why-3 c = search needs
 
--- src/lib.rt:68:17
 returns-2 : tie.Need-returns-2
-returns-2 c = λ e q.
-    let p = c .before .before .before .before .before .before .before .before .before .before .before .before .before .before .before .before .before .before .before .before .before .before .before .before .before .before .before .args in
+returns-2 c = λ e q claimed.
+    let p = c .before .before .before .before .before .before .before .before .before .before .before .before .before .before .before .before .before .before .before .before .before .before .before .before .before .before .before .before .before .args in
     let x = lent (p .t .now) (p .v .now) (p .o .now) (p .a .now) (p .b .now) (p .r .now) (p .f .now) (p .l .now) (p .n) in
     let rest = handed (numbering (p .sheet .now) x) (sizes x) (p .numbers .now) (p .lengths .now) in
-    let d = sym (c .before .before .before .before .before .before .before .before .before .before .before .before .before .before .after-checks .ensures (p .t .now) (p .a .now) e) ∙ c .before .before .before .before .before .before .before .before .before .before .before .before .enum-told .given .1 in
-    let filled = c .before .before .before .before .before .before .before .before .before .after-checks2 .ensures (p .t .now) (p .a .now) e (omega (arith, length-replicate {A = ℕ} maxEntries 0)) (omega (arith, length-replicate {A = ℕ} maxFunctions 0)) in
+    let d = sym (c .before .before .before .before .before .before .before .before .before .before .before .before .before .before .after-checks .ensures (p .t .now) (p .v .now) (p .a .now) e claimed) ∙ c .before .before .before .before .before .before .before .before .before .before .before .before .enum-told .given .1 in
+    let filled = c .before .before .before .before .before .before .before .before .before .after-checks2 .ensures (p .t .now) (p .v .now) (p .a .now) e claimed (omega (arith, length-replicate {A = ℕ} maxEntries 0)) (omega (arith, length-replicate {A = ℕ} maxFunctions 0)) in
     let m = numbering-goes (sizes x) _ _ _ _ (numbering (p .sheet .now) x) filled (c .before .before .before .before .before .count .given .1) in
     over-stops (p .g) (p .sheet .now) x rest (p .numbers .now) (p .lengths .now) d m
     (sym (c .before .before .before .over-operations .ensures ∙ over-is (p .g) (p .sheet .now) x (p .order .now) q) ∙ c .before .why3 .given .1)
@@ -76,45 +65,38 @@ returns-2 c = λ e q.
 enum-told-2 : tie.Need-enum-told-2
 enum-told-2 c = search needs
 
--- src/lib.rt:70:34
 slice-aggregate-hand-over : tie.Need-slice-aggregate-hand-over
 slice-aggregate-hand-over c = search needs
 
--- src/lib.rt:70:47
 slice-aggregate-hand-over-2 : tie.Need-slice-aggregate-hand-over-2
 slice-aggregate-hand-over-2 c = search needs
 
--- src/lib.rt:70:13
 hand-over-requires : tie.Need-hand-over-requires
 hand-over-requires c κs = search needs
 
--- src/lib.rt:41:1
 returns-3 : tie.Need-returns-3
-returns-3 c = λ e q.
-    let p = c .before .before .before .before .before .before .before .before .before .before .before .before .before .before .before .before .before .before .before .before .before .before .before .args in
+returns-3 c = λ e q claimed.
+    let p = c .before .before .before .before .before .before .before .before .before .before .before .before .before .before .before .before .before .before .before .before .before .before .before .before .before .args in
     let x = lent (p .t .now) (p .v .now) (p .o .now) (p .a .now) (p .b .now) (p .r .now) (p .f .now) (p .l .now) (p .n) in
     let rest = handed (numbering (p .sheet .now) x) (sizes x) (p .numbers .now) (p .lengths .now) in
-    let d = sym (c .before .before .before .before .before .before .before .before .before .before .after-checks .ensures (p .t .now) (p .a .now) e) ∙ c .before .before .before .before .before .before .before .before .enum-told .given .1 in
-    let filled = c .before .before .before .before .before .after-checks2 .ensures (p .t .now) (p .a .now) e (omega (arith, length-replicate {A = ℕ} maxEntries 0)) (omega (arith, length-replicate {A = ℕ} maxFunctions 0)) in
+    let d = sym (c .before .before .before .before .before .before .before .before .before .before .after-checks .ensures (p .t .now) (p .v .now) (p .a .now) e claimed) ∙ c .before .before .before .before .before .before .before .before .enum-told .given .1 in
+    let filled = c .before .before .before .before .before .after-checks2 .ensures (p .t .now) (p .v .now) (p .a .now) e claimed (omega (arith, length-replicate {A = ℕ} maxEntries 0)) (omega (arith, length-replicate {A = ℕ} maxFunctions 0)) in
     numbers-stop (p .g) (p .sheet .now) x rest (p .numbers .now) (p .lengths .now) d
     (numbering-stops (sizes x) _ _ _ _ (numbering (p .sheet .now) x) filled (c .before .why2 .given .1))
 
--- src/lib.rt:41:1
 same-length : tie.Need-same-length
 same-length c = search needs
 
--- src/lib.rt:41:1
 same-length-2 : tie.Need-same-length-2
 same-length-2 c = search needs
 
--- src/lib.rt:41:1
 returns-4 : tie.Need-returns-4
-returns-4 c = λ e q.
-    let p = c .before .before .before .before .before .before .before .before .before .before .before .before .before .before .before .before .before .before .before .before .before .before .before .before .before .before .before .before .before .before .before .before .before .before .before .args in
+returns-4 c = λ e q claimed.
+    let p = c .before .before .before .before .before .before .before .before .before .before .before .before .before .before .before .before .before .before .before .before .before .before .before .before .before .before .before .before .before .before .before .before .before .before .before .before .before .args in
     let x = lent (p .t .now) (p .v .now) (p .o .now) (p .a .now) (p .b .now) (p .r .now) (p .f .now) (p .l .now) (p .n) in
     let rest = handed (numbering (p .sheet .now) x) (sizes x) (p .numbers .now) (p .lengths .now) in
-    let d = sym (c .before .before .before .before .before .before .before .before .before .before .before .before .before .before .before .before .before .before .before .before .before .before .after-checks .ensures (p .t .now) (p .a .now) e) ∙ c .before .before .before .before .before .before .before .before .before .before .before .before .before .before .before .before .before .before .before .before .enum-told .given .1 in
-    let filled = c .before .before .before .before .before .before .before .before .before .before .before .before .before .before .before .before .before .after-checks2 .ensures (p .t .now) (p .a .now) e (omega (arith, length-replicate {A = ℕ} maxEntries 0)) (omega (arith, length-replicate {A = ℕ} maxFunctions 0)) in
+    let d = sym (c .before .before .before .before .before .before .before .before .before .before .before .before .before .before .before .before .before .before .before .before .before .before .after-checks .ensures (p .t .now) (p .v .now) (p .a .now) e claimed) ∙ c .before .before .before .before .before .before .before .before .before .before .before .before .before .before .before .before .before .before .before .before .enum-told .given .1 in
+    let filled = c .before .before .before .before .before .before .before .before .before .before .before .before .before .before .before .before .before .after-checks2 .ensures (p .t .now) (p .v .now) (p .a .now) e claimed (omega (arith, length-replicate {A = ℕ} maxEntries 0)) (omega (arith, length-replicate {A = ℕ} maxFunctions 0)) in
     let m = numbering-goes (sizes x) _ _ _ _ (numbering (p .sheet .now) x) filled (c .before .before .before .before .before .before .before .before .before .before .before .before .before .count .given .1) in
     let o = sym (c .before .before .before .before .before .before .before .before .before .before .before .over-operations .ensures ∙ over-is (p .g) (p .sheet .now) x (p .order .now) q) ∙ c .before .before .before .before .before .before .before .before .before .enum-told2 .given .1 in
     list-handed (numbering (p .sheet .now) x) (sizes x) _ _ _ _ (p .numbers .now) (p .lengths .now) filled (c .before .before .before .before .before .before .before .before .before .before .before .before .before .count .given .1) (sizes-long x e) (c .before .before .before .before .hand-over .ensures)

@@ -1,31 +1,29 @@
--- `after_checks`: the walk over cells from zeros. Assumes nothing.
+-- `after_checks`: the walk; a refusal clears both lists. Assumes nothing.
+use Prim.Native.Nat.{ℕ}
+use mathlib.Core.Path.{ap, _∙_}
+use lib.ListN.{replicate}
+use Rattle.tables.specs.Tables.{lent}
+use Rattle.numbering.specs.Alone.{sizes}
+use Rattle.numbering.specs.Fill.{entriesNumbered}
+use Rattle.numbering.proofs.Passed.{walk-is, told-written, told-refused}
 use borrow.Author.Needs.{needs}
 use Rattle.numbering.proofs.after_checks.Statement.{statement}
 use Rattle.numbering.proofs.after_checks.Tie as tie
 
-slice-aggregate-fill-bases : tie.Need-slice-aggregate-fill-bases
-slice-aggregate-fill-bases c = search needs
+visit-all-requires : tie.Need-visit-all-requires
+visit-all-requires c κs = search needs
 
-fill-bases-requires : tie.Need-fill-bases-requires
-fill-bases-requires c κs = search needs
+enum-known-count : tie.Need-enum-known-count
+enum-known-count c = search needs
 
-slice-aggregate-fill-claims : tie.Need-slice-aggregate-fill-claims
-slice-aggregate-fill-claims c = search needs
+enum-known-why : tie.Need-enum-known-why
+enum-known-why c = search needs
 
-slice-aggregate-fill-claims-2 : tie.Need-slice-aggregate-fill-claims-2
-slice-aggregate-fill-claims-2 c = search needs
+clear-u64-requires : tie.Need-clear-u64-requires
+clear-u64-requires c κs = search needs
 
-fill-claims-requires : tie.Need-fill-claims-requires
-fill-claims-requires c κs = search needs
-
-slice-aggregate-walk-claimed : tie.Need-slice-aggregate-walk-claimed
-slice-aggregate-walk-claimed c = search needs
-
-slice-aggregate-walk-claimed-2 : tie.Need-slice-aggregate-walk-claimed-2
-slice-aggregate-walk-claimed-2 c = search needs
-
-walk-claimed-requires : tie.Need-walk-claimed-requires
-walk-claimed-requires c κs = search needs
+clear-u64-requires-2 : tie.Need-clear-u64-requires-2
+clear-u64-requires-2 c κs = search needs
 
 same-length : tie.Need-same-length
 same-length c = search needs
@@ -35,21 +33,40 @@ same-length-2 c = search needs
 
 returns : tie.Need-returns
 returns c =
-    let a = c .before .before .before .before .before .before .before .before .before .before .before .before .before .before .before .before .before .before .before .before .before .before .before .before .before .args in
-    λ t e passed hn hl. c .before .before .before .before .walk-claimed .ensures t (a .v .now) e passed (c .before .before .before .before .before .before .before .before .before .before .before .before .before .before .fill-bases .ensures .1, c .before .before .before .before .before .before .before .before .before .before .fill-claims .ensures) hn hl
+    let a = c .before .before .before .before .before .before .before .before .before .before .before .before .before .before .before .before .before .before .before .before .args in
+    λ t v e passed filled hn hl.
+    let x = lent t v (a .o .now) e (a .b .now) (a .r .now) (a .f .now) (a .l .now) (a .n) in
+    told-written (entriesNumbered (a .sheet .now) x) (sizes x) _ _ (a .numbers .now) (a .lengths .now)
+    (c .before .before .before .before .before .before .before .visit-all .ensures t v e passed filled hn hl) (c .before .count .given .1) (walk-is x passed (a .sheet .now))
+
+same-length-3 : tie.Need-same-length-3
+same-length-3 c = search needs
+
+same-length-4 : tie.Need-same-length-4
+same-length-4 c = search needs
+
+returns-2 : tie.Need-returns-2
+returns-2 c =
+    let a = c .before .before .before .before .before .before .before .before .before .before .before .before .before .before .before .before .before .before .before .before .before .before .before .before .before .before .before .before .args in
+    let w = c .before .before .before .before .before .before .before .before .before .before .before .before .before .before .before .visit-all in
+    λ t v e passed filled hn hl.
+    let x = lent t v (a .o .now) e (a .b .now) (a .r .now) (a .f .now) (a .l .now) (a .n) in
+    told-refused (entriesNumbered (a .sheet .now) x) (sizes x) _ _ (a .numbers .now) (a .lengths .now)
+    (w .ensures t v e passed filled hn hl) (c .before .before .before .before .before .before .before .before .before .why .given .1) (walk-is x passed (a .sheet .now))
+    (c .before .before .before .before .before .before .clear-u64 .ensures ∙ ap (λ (k : ℕ). replicate k 0) (w .kept .1 .1 .1 .1 .1 .1 .1 .1 .1 .0)) (c .before .before .clear-u642 .ensures ∙ ap (λ (k : ℕ). replicate k 0) (w .kept .1 .1 .1 .1 .1 .1 .1 .1 .1 .1 .0))
 
 pub after-checks-spec : {M : Type 1} → statement M
 after-checks-spec =
     tie.close
     (tie.spec
-    slice-aggregate-fill-bases
-    fill-bases-requires
-    slice-aggregate-fill-claims
-    slice-aggregate-fill-claims-2
-    fill-claims-requires
-    slice-aggregate-walk-claimed
-    slice-aggregate-walk-claimed-2
-    walk-claimed-requires
+    visit-all-requires
+    enum-known-count
+    enum-known-why
+    clear-u64-requires
+    clear-u64-requires-2
     same-length
     same-length-2
-    returns)
+    returns
+    same-length-3
+    same-length-4
+    returns-2)

@@ -1,6 +1,7 @@
 -- `visit_all`: a stack from zeros, as large as is wanted. Assumes nothing.
 use Rattle.tables.specs.Tables.{lent}
-use Rattle.numbering.proofs.Passed.{room, tells}
+use Rattle.table_checks.proofs.Handed.{claims-tell}
+use Rattle.numbering.proofs.Passed.{room}
 use borrow.Author.Needs.{needs}
 use Rattle.numbering.proofs.visit_all.Statement.{statement}
 use Rattle.numbering.proofs.visit_all.Tie as tie
@@ -37,7 +38,7 @@ returns-2 c =
     let a = c .before .before .before .before .before .before .before .before .before .before .before .before .before .before .before .before .before .before .before .before .before .before .before .args in
     λ t v e passed filled hn hl.
     let x = lent t v (a .o .now) e (a .b .now) (a .r .now) (a .f .now) (a .l .now) (a .n) in
-    c .before .before .before .before .before .before .visit-functions .ensures t v e (tells x passed _ _ (filled .0) (filled .1)) (room x passed (a .numbers .now) (a .lengths .now) hn hl)
+    c .before .before .before .before .before .before .visit-functions .ensures t v e (claims-tell x passed _ _ filled) (room x passed (a .numbers .now) (a .lengths .now) hn hl)
 
 pub visit-all-spec : {M : Type 1} → statement M
 visit-all-spec =

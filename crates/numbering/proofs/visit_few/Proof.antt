@@ -1,6 +1,7 @@
 -- `visit_few`: a small stack from zeros. Assumes nothing.
 use Rattle.tables.specs.Tables.{lent}
-use Rattle.numbering.proofs.Passed.{few-room, tells}
+use Rattle.table_checks.proofs.Handed.{claims-tell}
+use Rattle.numbering.proofs.Passed.{few-room}
 use borrow.Author.Needs.{needs}
 use Rattle.numbering.proofs.visit_few.Statement.{statement}
 use Rattle.numbering.proofs.visit_few.Tie as tie
@@ -25,7 +26,7 @@ returns c =
     let a = c .before .before .before .before .before .before .before .before .before .before .before .before .before .before .before .before .before .before .before .before .before .args in
     λ t v e passed filled hn hl few.
     let x = lent t v (a .o .now) e (a .b .now) (a .r .now) (a .f .now) (a .l .now) (a .n) in
-    c .before .before .before .before .before .before .visit-functions .ensures t v e (tells x passed _ _ (filled .0) (filled .1)) (few-room x passed few (a .numbers .now) (a .lengths .now) hn hl)
+    c .before .before .before .before .before .before .visit-functions .ensures t v e (claims-tell x passed _ _ filled) (few-room x passed few (a .numbers .now) (a .lengths .now) hn hl)
 
 pub visit-few-spec : {M : Type 1} → statement M
 visit-few-spec =

@@ -25,6 +25,12 @@ enum-told c = search needs
 slice-aggregate-check-with-sheet : tie.Need-slice-aggregate-check-with-sheet
 slice-aggregate-check-with-sheet c = search needs
 
+slice-aggregate-check-with-sheet-2 : tie.Need-slice-aggregate-check-with-sheet-2
+slice-aggregate-check-with-sheet-2 c = search needs
+
+slice-aggregate-check-with-sheet-3 : tie.Need-slice-aggregate-check-with-sheet-3
+slice-aggregate-check-with-sheet-3 c = search needs
+
 check-with-sheet-requires : tie.Need-check-with-sheet-requires
 check-with-sheet-requires c κs = search needs
 
@@ -42,22 +48,22 @@ after-checks-requires c κs = search needs
 
 returns-2 : tie.Need-returns-2
 returns-2 c =
-    let p = c .before .before .before .before .before .before .before .before .before .before .before .before .before .before .before .before .before .before .args in
+    let p = c .before .before .before .before .before .before .before .before .before .before .before .before .before .before .before .before .before .before .before .before .before .before .args in
     let x = lent (p .t .now) (p .v .now) (p .o .now) (p .a .now) (p .b .now) (p .r .now) (p .f .now) (p .l .now) (p .n) in
-    let got = c .before .before .before .before .before .before .before .before in
-    let told = c .before .before .before .before in
-    alone-refused (p .g) (p .sheet .now) x (got .check-target .result) (got .check-target .ensures) (c .before .before .before .before .before .before .enum-told .given .1)
-    (told .check-with-sheet .result) (told .check-with-sheet .ensures) _ (c .before .why2 .given .1)
+    let got = c .before .before .before .before .before .before .before .before .before .before .before .before .check-target in
+    let told = c .before .before .before .before .before .before .check-with-sheet in
+    alone-refused (p .g) (p .sheet .now) x (got .result) (got .ensures) (c .before .before .before .before .before .before .before .before .before .before .enum-told .given .1)
+    (told .result) (told .ensures .0) _ (c .before .why2 .given .1)
 
 returns-3 : tie.Need-returns-3
 returns-3 c =
-    let p = c .before .before .before .before .before .before .before .before .before .before .before .before .before .before .before .before .before .before .before .before .args in
+    let p = c .before .before .before .before .before .before .before .before .before .before .before .before .before .before .before .before .before .before .before .before .before .before .before .before .args in
     let x = lent (p .t .now) (p .v .now) (p .o .now) (p .a .now) (p .b .now) (p .r .now) (p .f .now) (p .l .now) (p .n) in
-    let got = c .before .before .before .before .before .before .before .before .before .before in
-    let told = c .before .before .before .before .before .before in
+    let got = c .before .before .before .before .before .before .before .before .before .before .before .before .before .before .check-target in
+    let told = c .before .before .before .before .before .before .before .before .check-with-sheet in
     c .after-checks .ensures (p .b .now) (p .r .now) (p .f .now)
-    ∙ alone-fine (p .g) (p .sheet .now) x (got .check-target .result) (got .check-target .ensures) (c .before .before .before .before .before .before .before .before .enum-told .given .1)
-    (told .check-with-sheet .result) (told .check-with-sheet .ensures) _ (c .before .before .before .m .given .1) (omega arith)
+    ∙ alone-fine (p .g) (p .sheet .now) x (got .result) (got .ensures) (c .before .before .before .before .before .before .before .before .before .before .before .before .enum-told .given .1)
+    (told .result) (told .ensures .0) _ (c .before .before .before .m .given .1) (omega arith)
 
 pub check-alone-spec : {M : Type 1} → statement M
 check-alone-spec =
@@ -68,6 +74,8 @@ check-alone-spec =
     returns
     enum-told
     slice-aggregate-check-with-sheet
+    slice-aggregate-check-with-sheet-2
+    slice-aggregate-check-with-sheet-3
     check-with-sheet-requires
     enum-known-why-2
     enum-known-m

@@ -1,12 +1,12 @@
--- `check_with_sheet`: code 1 over the tables and the sheet, then 2, 3 and 4. Assumes nothing.
-use mathlib.Core.Path.{sym, ap, _∙_}
+-- `check_with_sheet`: code 1 over the tables and the sheet, then 2, 3 and 4, the walk order and the claims. Assumes nothing.
+use mathlib.Core.Path.{sym, _∙_}
 use Rattle.tables.specs.Tables.{lent}
 use Rattle.tables.specs.Answer.{andThen}
 use Rattle.ranges.specs.Range.{tableRanges, sheetRange}
 use Rattle.walk.specs.Order.{order}
 use Rattle.table_checks.specs.Checks.{afterRanges, sheetChecks}
-use Rattle.table_checks.proofs.Turn.{settles-refused, settles-as, stops, passes}
-use Rattle.table_checks.proofs.Bare.{after-is}
+use Rattle.table_checks.proofs.Turn.{settles-refused, settles-as, stops, passes, no-refusal}
+use Rattle.table_checks.proofs.Bare.{after-is, filled-is}
 use borrow.Author.Needs.{needs}
 use Rattle.table_checks.proofs.check_with_sheet.Statement.{statement}
 use Rattle.table_checks.proofs.check_with_sheet.Tie as tie
@@ -26,11 +26,11 @@ same-length c = search needs
 returns : tie.Need-returns
 unfolding sheetChecks
 returns c =
-    let g = c .before .before .before .before .before .before .before .before .before .before .before .before .before .before .before .before .before .before .args in
+    let g = c .before .before .before .before .before .before .before .before .before .before .before .before .before .before .before .before .before .before .before .before .args in
     let x = lent (g .t .now) (g .v .now) (g .o .now) (g .a .now) (g .b .now) (g .r .now) (g .f .now) (g .l .now) (g .n) in
     let rest = andThen (sheetRange (g .sheet .now)) (afterRanges x) in
-    settles-refused _ _ _ _ _ (order x) (c .before .before .refuse .ensures .0) (c .before .before .refuse .ensures .1)
-    (stops _ (tableRanges x) rest (c .before .before .before .before .before .before .before .check-tables .ensures) (c .before .before .before .before .before .why .given .1))
+    let q = stops _ (tableRanges x) rest (c .before .before .before .before .before .before .before .check-tables .ensures) (c .before .before .before .before .before .why .given .1) in
+    (settles-refused _ _ _ _ _ (order x) (c .before .before .refuse .ensures .0) (c .before .before .refuse .ensures .1) q, λ k. no-refusal (sym q ∙ k))
 
 enum-told : tie.Need-enum-told
 enum-told c = search needs
@@ -50,12 +50,12 @@ same-length-2 c = search needs
 returns-2 : tie.Need-returns-2
 unfolding sheetChecks
 returns-2 c =
-    let g = c .before .before .before .before .before .before .before .before .before .before .before .before .before .before .before .before .before .before .before .before .before .args in
+    let g = c .before .before .before .before .before .before .before .before .before .before .before .before .before .before .before .before .before .before .before .before .before .before .before .args in
     let x = lent (g .t .now) (g .v .now) (g .o .now) (g .a .now) (g .b .now) (g .r .now) (g .f .now) (g .l .now) (g .n) in
     let rest = andThen (sheetRange (g .sheet .now)) (afterRanges x) in
-    settles-refused _ _ _ _ _ (order x) (c .before .before .refuse2 .ensures .0) (c .before .before .refuse2 .ensures .1)
-    (passes _ (tableRanges x) rest (c .before .before .before .before .before .before .before .before .before .before .check-tables .ensures) (c .before .before .before .before .before .before .before .before .enum-told .given .1)
-    ∙ stops _ (sheetRange (g .sheet .now)) (afterRanges x) (c .before .before .before .before .before .before .before .check-sheet .ensures) (c .before .before .before .before .before .why2 .given .1))
+    let q = passes _ (tableRanges x) rest (c .before .before .before .before .before .before .before .before .before .before .check-tables .ensures) (c .before .before .before .before .before .before .before .before .enum-told .given .1)
+    ∙ stops _ (sheetRange (g .sheet .now)) (afterRanges x) (c .before .before .before .before .before .before .before .check-sheet .ensures) (c .before .before .before .before .before .why2 .given .1) in
+    (settles-refused _ _ _ _ _ (order x) (c .before .before .refuse2 .ensures .0) (c .before .before .refuse2 .ensures .1) q, λ k. no-refusal (sym q ∙ k))
 
 enum-told-2 : tie.Need-enum-told-2
 enum-told-2 c = search needs
@@ -66,19 +66,25 @@ after-ranges-requires c κs = search needs
 same-length-3 : tie.Need-same-length-3
 same-length-3 c = search needs
 
+same-length-4 : tie.Need-same-length-4
+same-length-4 c = search needs
+
+same-length-5 : tie.Need-same-length-5
+same-length-5 c = search needs
+
 returns-3 : tie.Need-returns-3
 unfolding sheetChecks
 returns-3 c =
-    let g = c .before .before .before .before .before .before .before .before .before .before .before .before .before .before .before .before .before .before .before .before .args in
+    let g = c .before .before .before .before .before .before .before .before .before .before .before .before .before .before .before .before .before .before .before .before .before .before .before .before .before .before .before .before .args in
     let x = lent (g .t .now) (g .v .now) (g .o .now) (g .a .now) (g .b .now) (g .r .now) (g .f .now) (g .l .now) (g .n) in
     let rest = andThen (sheetRange (g .sheet .now)) (afterRanges x) in
-    let q = c .before .before .before .before .before .before .before .before .before .check-tables .ensures in
-    let e = c .before .before .before .before .before .before .before .enum-told .given .1 in
-    settles-as
-    (after-is x (sym q ∙ e)
+    let q = c .before .before .before .before .before .before .before .before .before .before .before .before .before .before .before .check-tables .ensures in
+    let e = c .before .before .before .before .before .before .before .before .before .before .before .before .before .enum-told .given .1 in
+    let h = c .before .before .before .before .before .before .after-ranges .ensures (g .t .now) (g .a .now) in
+    let same = after-is x (sym q ∙ e)
     ∙ sym (passes _ (tableRanges x) rest q e
-    ∙ passes _ (sheetRange (g .sheet .now)) (afterRanges x) (c .before .before .before .before .before .before .check-sheet .ensures) (c .before .before .before .before .enum-told2 .given .1)))
-    (c .before .before .after-ranges .ensures (g .t .now) (g .a .now))
+    ∙ passes _ (sheetRange (g .sheet .now)) (afterRanges x) (c .before .before .before .before .before .before .before .before .before .before .before .before .check-sheet .ensures) (c .before .before .before .before .before .before .before .before .before .before .enum-told2 .given .1)) in
+    (settles-as same (h .0), λ k z. filled-is x (sym q ∙ e) _ _ (h .1 (same ∙ k) z))
 
 pub check-with-sheet-spec : {M : Type 1} → statement M
 check-with-sheet-spec =
@@ -98,4 +104,6 @@ check-with-sheet-spec =
     enum-told-2
     after-ranges-requires
     same-length-3
+    same-length-4
+    same-length-5
     returns-3)

@@ -1,92 +1,43 @@
--- `values_claimed`: the cells from zeros, on counts that are cut at the sizes. Assumes nothing.
-use Prim.Native.Nat.{ℕ, min}
-use native.Mathlib.Omega.{arith}
-use mathlib.Core.Path.{_≡_, subst, ap, _∙_}
-use mathlib.Core.List.{List, []}
-use Rattle.tables.specs.Sizes.{maxValues, maxOperations, cutCounts}
-use Rattle.tables.specs.Tables.{lent, cut}
-use Rattle.tables.specs.declared.Counts.{Counts}
-use Rattle.tables.specs.declared.Answer.{Answer}
-use Rattle.values.specs.Claims.{basesAfter, claimsAfter, lowestSeen}
-use Rattle.values.specs.Guarded.{Claimed}
-use Rattle.values.proofs.Seen.{seen-answer, few, many, not-few}
+-- `values_claimed`: the lent cells where they have room. Assumes nothing.
+use Rattle.tables.specs.Sizes.{maxOperations, maxEntries}
+use Rattle.values.proofs.Seen.{no-zeros}
 use borrow.Author.Needs.{needs}
 use Rattle.values.proofs.values_claimed.Statement.{statement}
 use Rattle.values.proofs.values_claimed.Tie as tie
 
--- the same by the counts as the code cut them
-claimed-cut : (v o b l : List ℕ) (n m : Counts) → m ≡ cutCounts n → (r : Answer) (bases cells : List ℕ)
-    → Claimed r (lent [] v o [] b [] [] l m) bases cells → Claimed r (cut (lent [] v o [] b [] [] l n)) bases cells
-claimed-cut v o b l n m e r bases cells h = subst (λ (k : Counts). Claimed r (lent [] v o [] b [] [] l k) bases cells) e h
+answer-alone-requires : tie.Need-answer-alone-requires
+answer-alone-requires c κs = search needs
 
-cut-counts-requires : tie.Need-cut-counts-requires
-cut-counts-requires c κs = search needs
+returns : tie.Need-returns
+returns c = (c .answer-alone .ensures, λ z. absurd (no-zeros _ maxOperations (c .before .if1 .taken) (z .0)))
 
-fill-bases-requires : tie.Need-fill-bases-requires
-fill-bases-requires c κs = search needs
+answer-alone-requires-2 : tie.Need-answer-alone-requires-2
+answer-alone-requires-2 c κs = search needs
+
+returns-2 : tie.Need-returns-2
+returns-2 c = (c .answer-alone2 .ensures, λ z. absurd (no-zeros _ maxEntries (c .before .if2 .taken) (z .1)))
+
+claim-values-requires : tie.Need-claim-values-requires
+claim-values-requires c κs = search needs
 
 same-length : tie.Need-same-length
 same-length c = search needs
 
-returns : tie.Need-returns
-returns c eb ec =
-    let a = c .before .before .before .before .before .before .before .before .before .before .before .before .args in
-    let m = c .before .before .before .before .before .cut-counts in
-    let fill = c .before .before .before .fill-bases in
-    let x = lent [] (a .v .now) (a .o .now) [] (a .b .now) [] [] (a .l .now) (m .result) in
-    claimed-cut (a .v .now) (a .o .now) (a .b .now) (a .l .now) (a .n) (m .result) (m .ensures) _ _ _
-    (many x _ (fill .ensures .0) (c .if1 .taken), λ h. absurd (not-few x _ (fill .ensures .0) (c .if1 .taken) h))
-
-slice-aggregate-mark-arguments : tie.Need-slice-aggregate-mark-arguments
-slice-aggregate-mark-arguments c = search needs
-
-mark-arguments-requires : tie.Need-mark-arguments-requires
-mark-arguments-requires c κs = search needs
-
-fill-claims-requires : tie.Need-fill-claims-requires
-fill-claims-requires c κs = search needs
-
-slice-aggregate-lowest-seen : tie.Need-slice-aggregate-lowest-seen
-slice-aggregate-lowest-seen c = search needs
-
-lowest-seen-requires : tie.Need-lowest-seen-requires
-lowest-seen-requires c κs = search needs
-
 same-length-2 : tie.Need-same-length-2
 same-length-2 c = search needs
 
-same-length-3 : tie.Need-same-length-3
-same-length-3 c = search needs
-
-returns-2 : tie.Need-returns-2
-unfolding lowestSeen
-returns-2 c eb ec =
-    let a = c .before .before .before .before .before .before .before .before .before .before .before .before .before .before .before .before .before .before .before .before .before .before .before .before .args in
-    let m = c .before .before .before .before .before .before .before .before .before .before .before .before .before .before .before .before .before .cut-counts in
-    let fill = c .before .before .before .before .before .before .before .before .before .before .before .before .before .before .before .fill-bases in
-    let x = lent [] (a .v .now) (a .o .now) [] (a .b .now) [] [] (a .l .now) (m .result) in
-    let ev : m .result .values ≡ min (a .n .values) maxValues = ap (λ (k : Counts). k .values) (m .ensures) in
-    let eo : m .result .operations ≡ min (a .n .operations) maxOperations = ap (λ (k : Counts). k .operations) (m .ensures) in
-    let hb = fill .ensures .1 ∙ ap (basesAfter x) eb in
-    let hc = c .before .before .before .before .before .before .fill-claims .ensures ∙ ap (claimsAfter x _) ec in
-    claimed-cut (a .v .now) (a .o .now) (a .b .now) (a .l .now) (a .n) (m .result) (m .ensures) _ _ _ (
-      seen-answer x _ _ _ (omega arith) (omega arith) (few x _ (fill .ensures .0) (c .before .before .before .before .before .before .before .before .before .before .before .before .if1 .left)) hb (c .before .before .before .before .before .before .before .before .before .before .mark-arguments .ensures) hc _ (c .lowest-seen .ensures),
-      λ h. (hb, hc),
-    )
+returns-3 : tie.Need-returns-3
+returns-3 c = c .before .before .before .before .claim-values .ensures (c .before .before .before .before .before .before .before .before .if1 .left) (c .before .before .before .before .before .before .before .if2 .left)
 
 pub values-claimed-spec : {M : Type 1} → statement M
 values-claimed-spec =
     tie.close
     (tie.spec
-    cut-counts-requires
-    fill-bases-requires
-    same-length
+    answer-alone-requires
     returns
-    slice-aggregate-mark-arguments
-    mark-arguments-requires
-    fill-claims-requires
-    slice-aggregate-lowest-seen
-    lowest-seen-requires
+    answer-alone-requires-2
+    returns-2
+    claim-values-requires
+    same-length
     same-length-2
-    same-length-3
-    returns-2)
+    returns-3)
