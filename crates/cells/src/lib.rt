@@ -174,7 +174,13 @@ pub fn entries(l: &[u64], span: Span) -> &[u64]
 pub fn part_at(s: &[u64], width: u64, row: u64, column: u64, len: u64) -> &[u64]
     ensures { λ r. ⌜ now r ≡ partAt width (now (s .entry)) row column len ⌝ }
 {
-    let start = place(s.len() as u64, width, row, column);
+    let n = s.len() as u64;
+    if is_whole(n, width, row, column, len) {
+        let start = (row * width + column) as usize;
+        let end = start + len as usize;
+        return &s[start..end];
+    }
+    let start = place(n, width, row, column);
     entries(s, Span { start, len })
 }
 
@@ -200,16 +206,6 @@ pub fn clear_u64(s: &mut [u64])
 }
 
 // As many entries as both have, from the front; the rest of the target stays.
-pub fn copy_u32(from: &[u32], to: &mut [u32])
-    ensures { λ _. ⌜ now (to .exit) ≡ copied (now (from .entry)) (now (to .entry)) ⌝ }
-{
-    let mut i = 0;
-    while i < from.len() && i < to.len() {
-        to[i] = from[i];
-        i += 1;
-    }
-}
-
 pub fn copy_u64(from: &[u64], to: &mut [u64])
     ensures { λ _. ⌜ now (to .exit) ≡ copied (now (from .entry)) (now (to .entry)) ⌝ }
 {

@@ -1,6 +1,6 @@
 // What a rule reads of an operation: its attributes by name and form, and the types and tiles of its operands and its result.
 ghost use mathlib.Core.Path.{_≡_};
-ghost use Rattle.tiles.specs.Tile.{tileRow};
+ghost use Rattle.tiles.specs.Tile.{tileRow, hasKind};
 ghost use Rattle.lookups.specs.Lookup.{isTaken, firstIn, isEntry, entryIn, integerIn, numberOr, permutationIn, segmentsIn, segmentIn, flushesIn};
 ghost use Rattle.lookups.specs.Typed.{operandTypeIn, resultTypeIn, tileBy, operandTileIn, resultTileIn};
 use cells::Span;
@@ -182,6 +182,10 @@ pub fn segment(o: &[u32], a: &[u32], l: &[u64], n: Counts, operation: u64, posit
 pub fn flushes(o: &[u32], a: &[u32], l: &[u64], n: Counts, operation: u64) -> bool
     ensures { λ r. ⌜ r ≡ flushesIn (now (o .entry)) (now (a .entry)) (now (l .entry)) n operation ⌝ }
 {
+    // Every operation is asked, and many have no attribute.
+    if tables::attributes(o, n, operation).len == 0 {
+        return false;
+    }
     match find(
         o,
         a,
@@ -219,7 +223,7 @@ pub fn result_type(o: &[u32], l: &[u64], n: Counts, operation: u64) -> Typed
 }
 
 // The cells of a type that is a tile; none where there is no type.
-fn row_by<'a>(t: &'a [u64], sheet: &[u64], n: Counts, typed: Typed) -> &'a [u64]
+pub fn row_by<'a>(t: &'a [u64], sheet: &[u64], n: Counts, typed: Typed) -> &'a [u64]
     ensures { λ r. ⌜ tileRow (now r) ≡ tileBy (now (t .entry)) (now (sheet .entry)) n typed ⌝ }
 {
     match typed {
@@ -228,23 +232,7 @@ fn row_by<'a>(t: &'a [u64], sheet: &[u64], n: Counts, typed: Typed) -> &'a [u64]
     }
 }
 
-// The cells of the type of an operation's operand k, where it is a tile.
-fn operand_row<'a>(
-    t: &'a [u64],
-    v: &[u64],
-    o: &[u32],
-    l: &[u64],
-    sheet: &[u64],
-    n: Counts,
-    operation: u64,
-    k: u64,
-) -> &'a [u64]
-    ensures { λ r. ⌜ tileRow (now r) ≡ operandTileIn (now (t .entry)) (now (v .entry)) (now (o .entry)) (now (l .entry)) (now (sheet .entry)) n operation k ⌝ }
-{
-    row_by(t, sheet, n, operand_type(v, o, l, n, operation, k))
-}
-
-// The tile of an operation's operand k. Its cells are found by a call of their own, so that the tile is written where it is wanted.
+// The tile of an operation's operand k.
 pub fn operand_tile(
     t: &[u64],
     v: &[u64],
@@ -257,21 +245,7 @@ pub fn operand_tile(
 ) -> Tile
     ensures { λ r. ⌜ r ≡ operandTileIn (now (t .entry)) (now (v .entry)) (now (o .entry)) (now (l .entry)) (now (sheet .entry)) n operation k ⌝ }
 {
-    tiles::tile_of(operand_row(t, v, o, l, sheet, n, operation, k))
-}
-
-// The cells of the type of an operation's first result, where it is a tile.
-fn result_row<'a>(
-    t: &'a [u64],
-    o: &[u32],
-    l: &[u64],
-    sheet: &[u64],
-    n: Counts,
-    operation: u64,
-) -> &'a [u64]
-    ensures { λ r. ⌜ tileRow (now r) ≡ resultTileIn (now (t .entry)) (now (o .entry)) (now (l .entry)) (now (sheet .entry)) n operation ⌝ }
-{
-    row_by(t, sheet, n, result_type(o, l, n, operation))
+    tiles::tile_of(row_by(t, sheet, n, operand_type(v, o, l, n, operation, k)))
 }
 
 // The tile of an operation's first result.
@@ -285,5 +259,23 @@ pub fn result_tile(
 ) -> Tile
     ensures { λ r. ⌜ r ≡ resultTileIn (now (t .entry)) (now (o .entry)) (now (l .entry)) (now (sheet .entry)) n operation ⌝ }
 {
-    tiles::tile_of(result_row(t, o, l, sheet, n, operation))
+    tiles::tile_of(row_by(t, sheet, n, result_type(o, l, n, operation)))
+}
+
+// Operand k is a tile of numbers of this kind: no tile has to be built for it.
+pub fn operand_has_kind(
+    t: &[u64],
+    v: &[u64],
+    o: &[u32],
+    l: &[u64],
+    sheet: &[u64],
+    n: Counts,
+    operation: u64,
+    k: u64,
+    kind: u64,
+) -> bool
+    ensures { λ r. ⌜ r ≡ hasKind (operandTileIn (now (t .entry)) (now (v .entry)) (now (o .entry)) (now (l .entry)) (now (sheet .entry)) n operation k) kind ⌝ }
+{
+    let row = row_by(t, sheet, n, operand_type(v, o, l, n, operation, k));
+    (cells::at_u64(row, 0) == 1) & (cells::at_u64(row, 1) == kind)
 }

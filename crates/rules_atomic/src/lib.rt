@@ -1,6 +1,8 @@
 // The rules of the two atomic operations on pointers.
 ghost use mathlib.Core.Path.{_≡_};
 ghost use lib.ListN.{drop};
+ghost use Rattle.tiles.specs.Tile.{tileRow};
+ghost use Rattle.tiles.specs.Rules.{isWrongMask};
 ghost use Rattle.rules_atomic.specs.Arm.{isSwap, takesKind, isMode, isBetween, isBadSwap, isBadMode, isBadOrder, anyWrongMask, maskStart, isBadMask, atomicBy, atomicIn};
 use lookups::Found;
 use lookups::Verdict;
@@ -58,8 +60,11 @@ fn is_bad_swap(
 ) -> bool
     ensures { λ r. ⌜ r ≡ isBadSwap (now (t .entry)) (now (v .entry)) (now (o .entry)) (now (l .entry)) (now (sheet .entry)) n operation val ⌝ }
 {
+    if !is_swap(o, n, operation) {
+        return false;
+    }
     let other = lookups::operand_tile(t, v, o, l, sheet, n, operation, 2);
-    is_swap(o, n, operation) & (!tiles::same_tile(other, val) | !tiles::is_word(sheet, val.kind))
+    !tiles::same_tile(other, val) | !tiles::is_word(sheet, val.kind)
 }
 
 fn is_bad_mode(
@@ -73,8 +78,11 @@ fn is_bad_mode(
 ) -> bool
     ensures { λ r. ⌜ r ≡ isBadMode (now (o .entry)) (now (a .entry)) (now (l .entry)) (now (sheet .entry)) n operation val ⌝ }
 {
+    if is_swap(o, n, operation) {
+        return false;
+    }
     let mode = lookups::integer(o, a, l, n, operation, names::MODE);
-    !is_swap(o, n, operation) & !is_mode(sheet, val.kind, mode)
+    !is_mode(sheet, val.kind, mode)
 }
 
 fn is_bad_order(o: &[u32], a: &[u32], l: &[u64], n: Counts, operation: u64) -> bool
@@ -83,6 +91,16 @@ fn is_bad_order(o: &[u32], a: &[u32], l: &[u64], n: Counts, operation: u64) -> b
     let ordering = lookups::integer(o, a, l, n, operation, names::MEMORY_ORDERING_SEMANTICS);
     let scope = lookups::integer(o, a, l, n, operation, names::MEMORY_SCOPE);
     !is_between(1, 4, ordering) | !is_between(0, 2, scope)
+}
+
+// The cells of a type are a tile that is no mask for the value. A token has none, and no tile is made of it.
+fn is_wrong_row(row: &[u64], val: Tile) -> bool
+    ensures { λ r. ⌜ r ≡ isWrongMask (tileRow (now (row .entry))) val ⌝ }
+{
+    if cells::at_u64(row, 0) == 0 {
+        return false;
+    }
+    tiles::is_wrong_mask(tiles::tile_of(row), val)
 }
 
 // From the first on, some operand is a tile that is no mask for the value.
@@ -99,8 +117,8 @@ fn any_wrong_mask(
 {
     let mut k = first as usize;
     while k < operands.len() {
-        let mask = tiles::type_tile(t, sheet, n, tables::value_type(v, n, operands[k]));
-        if tiles::is_wrong_mask(mask, val) {
+        let row = tiles::seen_row(t, sheet, n, tables::value_type(v, n, operands[k]));
+        if is_wrong_row(row, val) {
             return true;
         }
         k += 1;

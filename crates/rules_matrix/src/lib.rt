@@ -1,5 +1,8 @@
 // The operation rules on matrices and their parts: MmaF, MmaI and MmaFScaled, and Insert and Extract. Each arm answers on any tables.
 ghost use mathlib.Core.Path.{_≡_};
+ghost use Rattle.tables.specs.Layout.{valueTypeIn};
+ghost use Rattle.tiles.specs.Tile.{tileIn, tileRow};
+ghost use Rattle.tiles.specs.Rules.{isIndex};
 ghost use Rattle.rules_matrix.specs.Mma.{scaledRule, kindsRule, mmaRule, mmaIn};
 ghost use Rattle.rules_matrix.specs.Part.{indicesDiffer, partRule, partIn};
 use lookups::Verdict;
@@ -97,6 +100,22 @@ pub fn mma(
     mma_rule(opcode, a, b, c, result, sa, sb)
 }
 
+// Such cells of a type are a single I32.
+fn is_index_row(row: &[u64]) -> bool
+    ensures { λ r. ⌜ r ≡ isIndex (tileRow (now (row .entry))) ⌝ }
+{
+    let rank = cells::least(cells::at_u64(row, 5), cells::rest(row.len() as u64, 8));
+    let is_i32 = (cells::at_u64(row, 0) == 1) & (cells::at_u64(row, 1) == tiles::I32);
+    (rank == 0) & is_i32
+}
+
+// The value is a single I32. Its cells tell, and no tile is made of them.
+fn is_index_value(t: &[u64], v: &[u64], sheet: &[u64], n: Counts, value: u64) -> bool
+    ensures { λ r. ⌜ r ≡ isIndex (tileIn (now (t .entry)) (now (sheet .entry)) n (valueTypeIn (now (v .entry)) n value)) ⌝ }
+{
+    is_index_row(tiles::seen_row(t, sheet, n, tables::value_type(v, n, value)))
+}
+
 // The operands from the offset on are not one index for each of so many dims.
 fn indices_differ(
     t: &[u64],
@@ -111,7 +130,8 @@ fn indices_differ(
 ) -> bool
     ensures { λ r. ⌜ r ≡ indicesDiffer (now (t .entry)) (now (v .entry)) (now (o .entry)) (now (l .entry)) (now (sheet .entry)) n operation offset rank ⌝ }
 {
-    let count = tables::operands(o, l, n, operation).len() as u64;
+    let operands = tables::operands(o, l, n, operation);
+    let count = operands.len() as u64;
     if count < offset {
         return true;
     }
@@ -120,8 +140,7 @@ fn indices_differ(
     }
     let mut k = offset;
     while k < count {
-        let index = lookups::operand_tile(t, v, o, l, sheet, n, operation, k);
-        if !tiles::is_index(index) {
+        if !is_index_value(t, v, sheet, n, cells::at_u64(operands, k)) {
             return true;
         }
         k += 1;

@@ -2,21 +2,22 @@
 use mathlib.Core.Path.{_≡_, refl, sym, ap, _∙_}
 use mathlib.Core.Bool.{Bool, true, false, cond, _&&_, _||_}
 use mathlib.Core.List.{List, [], _∷_, _++_, map}
-use Prim.Native.Nat.{ℕ, _≤_, _+_}
+use Prim.Native.Nat.{ℕ, zero, suc, _≤_, _+_, min}
 use native.Mathlib.Omega.{arith}
 use lib.Dec.{eqb, leb}
 use lib.IntN.{ℤ, pos, negsuc}
-use lib.ListN.{length, replicate, length-take, length-map}
-use lib.Seq.{take-take, take-append-le, take-all}
+use lib.ListN.{length, getD, take, drop, replicate, length-take, length-map}
+use lib.Seq.{take-take, take-append-le}
 use borrow.Author.Tests.{eq-eqb, eqb-true}
 use Rattle.arith.specs.Signed.{signedOf}
 use Rattle.tables.specs.Layout.{formIn, pointerIn, dimsIn}
 use Rattle.tables.specs.Sheet.{tileThroughIn}
 use Rattle.tables.specs.declared.Counts.{Counts}
-use Rattle.tiles.specs.Tile.{noTile, eightOf, rowIn, tileIn, viewIn, dimsOf, rankOf, sameElement}
+use Rattle.tiles.specs.Tile.{noTile, eightOf, cellsOf, rowIn, tileIn, viewIn, dimsOf, rankOf, sameElement}
 use Rattle.tiles.specs.Shape.{eqZ, allPairs, sameRank, sameShape, sameTile}
 use Rattle.tiles.specs.declared.Tile.{Tile}
 use Rattle.tiles.proofs.Equal.{eqZ-refl}
+use Rattle.tiles.proofs.Rows.{take-least, dims-are}
 
 -- ---- read off the tables
 
@@ -46,15 +47,23 @@ view-rank t n id =
     either-rank (leb 4 (formIn t n id) && leb (formIn t n id) 6) (rowIn 1 t n id) (row-rank 1 t n id)
 
 -- and its dims are those of the type.
+take-map : (k : ℕ) (xs : List ℕ) → take k (map signedOf xs) ≡ map signedOf (take k xs)
+take-map zero xs = refl
+take-map (suc k) [] = refl
+take-map (suc k) (x ∷ xs) = ap (_∷_ (signedOf x)) (take-map k xs)
+
 pub row-dims : (form : ℕ) (t : List ℕ) (n : Counts) (id : ℕ) → dimsOf (rowIn form t n id) ≡ map signedOf (dimsIn t n id)
 unfolding rowIn dimsOf eightOf
 row-dims form t n id =
-    let ds = map signedOf (dimsIn t n id) in
-    let e : length ds ≡ length (dimsIn t n id) = length-map (dimsIn t n id) signedOf in
-    let m = few-dims t n id in
-    take-take (length (dimsIn t n id)) 8 (ds ++ replicate 8 (pos 0)) m
-    ∙ take-append-le (length (dimsIn t n id)) ds (replicate 8 (pos 0)) (omega arith)
-    ∙ take-all (length (dimsIn t n id)) ds (omega arith)
+    let all = drop 8 (cellsOf t n id) in
+    let m = min (getD (cellsOf t n id) 5 0) 8 in
+    let e : length (dimsIn t n id) ≡ min m (length all) = ap length (sym (dims-are t n id)) ∙ length-take m all in
+    let few = few-dims t n id in
+    let l : length (map signedOf all) ≡ length all = length-map all signedOf in
+    take-take (length (dimsIn t n id)) 8 (map signedOf all ++ replicate 8 (pos 0)) few
+    ∙ take-append-le (length (dimsIn t n id)) (map signedOf all) (replicate 8 (pos 0)) (omega arith)
+    ∙ take-map (length (dimsIn t n id)) all
+    ∙ ap (map signedOf) (ap (λ (k : ℕ). take k all) e ∙ take-least m all ∙ dims-are t n id)
 
 -- ---- the same tile: "equal in form, kind and dims"
 

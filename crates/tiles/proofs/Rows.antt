@@ -9,14 +9,14 @@ use native.Mathlib.Nat.{add-zero, add-suc}
 use borrow.Author.Tests.{eqb-true, ltb-true, ltb-false}
 use lib.Dec.{eqb, ltb}
 use lib.IntN.{pos}
-use lib.ListN.{length, getD, take, drop, length-take, List·getD-eq-default}
+use lib.ListN.{length, getD, take, drop, length-take, length-append, length-map, length-replicate, length-drop, List·getD-eq-default}
 use lib.Seq.{getD-take, getD-drop, take-take, drop-drop, take-all}
 use Rattle.arith.specs.Signed.{signedOf}
 use Rattle.cells.proofs.Rows.{lt-or-ge}
 use Rattle.tables.specs.Layout.{countedCell, formIn, kindIn, pointerIn, rankIn, dimsIn}
 use Rattle.tables.specs.Sheet.{tileThroughIn}
 use Rattle.tables.specs.declared.Counts.{Counts}
-use Rattle.tiles.specs.Tile.{noTile, eightOf, cellsOf, rowTile, rowIn, tileIn, viewIn}
+use Rattle.tiles.specs.Tile.{noTile, eightOf, cellsOf, rowTile, rowIn, tileIn, viewIn, dimsOf, rankOf}
 
 take-none : (b : ℕ) → _≡_ {A = List ℕ} (take b []) []
 take-none zero = refl
@@ -34,17 +34,6 @@ take-least m xs = ⊎-elim
     (λ h. take-all (min m (length xs)) xs (omega arith) ∙ sym (take-all m xs h))
     (lt-or-ge m (length xs))
 
--- dim k of the first so many, or 0 in its place
-pub kept-at : (row : List ℕ) (rank k : ℕ) → cond (ltb k rank) (signedOf (getD row (8 + k) 0)) (pos 0) ≡ signedOf (getD (take rank (drop 8 row)) k 0)
-unfolding signedOf
-kept-at row rank k = by-test (ltb k rank) refl
-  where
-    by-test : (b : Bool) → ltb k rank ≡ b → cond b (signedOf (getD row (8 + k) 0)) (pos 0) ≡ signedOf (getD (take rank (drop 8 row)) k 0)
-    by-test true e = ap signedOf (sym (getD-take rank (drop 8 row) k 0 (ltb-true k rank e) ∙ getD-drop 8 row k 0))
-    by-test false e =
-        let past : getD (take rank (drop 8 row)) k 0 ≡ 0 = List·getD-eq-default (take rank (drop 8 row)) 0 (simp length-take (omega (arith, ltb-false k rank e))) in
-        rw past
-
 module _ (t : List ℕ) (n : Counts) (id : ℕ) where
   pub cells-at : (j : ℕ) → j < 16 → getD (cellsOf t n id) j 0 ≡ countedCell (n .types) 16 t id j
   unfolding cellsOf
@@ -58,7 +47,7 @@ module _ (t : List ℕ) (n : Counts) (id : ℕ) where
   unfolding formIn
   form-at = cells-at 0 (omega arith)
 
-  dims-are : take (min (getD (cellsOf t n id) 5 0) 8) (drop 8 (cellsOf t n id)) ≡ dimsIn t n id
+  pub dims-are : take (min (getD (cellsOf t n id) 5 0) 8) (drop 8 (cellsOf t n id)) ≡ dimsIn t n id
   unfolding dimsIn rankIn cellsOf
   dims-are = by-test (ltb id (n .types))
     where
@@ -74,6 +63,11 @@ module _ (t : List ℕ) (n : Counts) (id : ℕ) where
   pub row-in : (f : ℕ) → rowTile f (cellsOf t n id) ≡ rowIn f t n id
   unfolding rowTile rowIn kindIn
   row-in f = rw (dims-are, cells-at 1 (omega arith))
+
+-- the rank of a tile, by its cells
+pub rank-row : (form : ℕ) (row : List ℕ) → rankOf (rowTile form row) ≡ min (min (getD row 5 0) 8) (length row - 8)
+unfolding rankOf dimsOf rowTile eightOf
+rank-row form row = simp (length-take, length-append, length-map, length-replicate, length-drop) (omega arith)
 
 -- no cells, no tile
 pub no-row : rowTile 0 [] ≡ noTile

@@ -28,23 +28,27 @@ eightOf bits = take 8 (map signedOf bits ++ replicate 8 (pos 0))
 unfoldable pub cellsOf : List ℕ → Counts → ℕ → List ℕ
 cellsOf t n id = take (cond (ltb id (n .types)) 16 0) (drop (id * 16) t)
 
--- the kind and dims of a type's cells, as a tile of this form: column 1 is the kind, 5 the rank, 8 to 15 the dims
+-- the kind, rank and eight dims of a type's cells, as a tile of this form: column 1 is the kind, 5 the rank, 8 to 15 the dims; no more dims
+-- count than the rank says, and than there are
 unfoldable pub rowTile : ℕ → List ℕ → Tile
-rowTile form row =
-    let dims = take (min (getD row 5 0) 8) (drop 8 row) in
-    record { form = form; kind = getD row 1 0; rank = length dims; dims = eightOf dims }
+rowTile form row = record {
+  form = form;
+  kind = getD row 1 0;
+  rank = length (take (min (getD row 5 0) 8) (drop 8 row));
+  dims = eightOf (drop 8 row);
+}
 
 -- the tile that a type's own cells are; none where there are none
 abbrev pub tileRow : List ℕ → Tile
 tileRow row = rowTile (getD row 0 0) row
 
--- a type's kind and dims, as a tile of this form
+-- a type's kind, rank and eight dims, as a tile of this form
 unfoldable pub rowIn : ℕ → List ℕ → Counts → ℕ → Tile
 rowIn form t n id = record {
   form = form;
   kind = kindIn t n id;
   rank = length (dimsIn t n id);
-  dims = eightOf (dimsIn t n id);
+  dims = eightOf (drop 8 (cellsOf t n id));
 }
 
 -- The tile that a type is. "Forms of `T`: .. 1 tile, 2 pointer tile"; where the sheet says that no tile is seen through a pointer

@@ -2,15 +2,14 @@
 // are joined by `&` and `|`: no part has to be asked first.
 ghost use mathlib.Core.Path.{_≡_};
 ghost use Rattle.arith.specs.Signed.{signedOf};
-ghost use mathlib.Core.Bool.{cond};
+ghost use mathlib.Core.Bool.{not, _||_};
 ghost use mathlib.Core.List.{map};
-ghost use lib.IntN.{pos};
-ghost use lib.ListN.{take, drop};
+ghost use lib.ListN.{drop};
 ghost use Rattle.cells.specs.Lists.{mem};
 ghost use Rattle.tiles.specs.Kind.{isInteger, bitsIn};
 ghost use Rattle.tiles.specs.Tile.{noTile, eightOf, cellsOf, rowTile, tileRow, tileIn, viewIn, rankOf, dimOf, dimsOf, isTile, isNumber, isPointer, hasKind, sameScalar, sameElement, pointsTo, isIntegers, isIntegersOrPointers};
 ghost use Rattle.tiles.specs.Shape.{eqZ, anyPair, allPairs, sameDim, sameRank, sameShape, sameTile, undividedBy, isUneven, stretchesTo, isStretched, quotientOf, countOf, hasLeft, sameProduct};
-ghost use Rattle.tiles.specs.Rules.{sameBits, isBitcast, isReshape, isBroadcast, hasAxes, isPermutation, movedFrom, isPermuted, isPackable, bitCountOf, inBytes, isPacked, atomicDiffers, isWord, isWrongMask, outsideDim, isGroupOutside, isGroupsOutside, isPowerBase, isPowerExponent, isNoPart, isIndex, isAxisIndex};
+ghost use Rattle.tiles.specs.Rules.{sameBits, isBitcast, isReshape, isBroadcast, hasAxes, isPermutation, movedFrom, isPermuted, isPackable, bitCountOf, inBytes, isPacked, atomicDiffers, isWord, isWrongMask, outsideDim, isGroupOutside, isGroupsOutside, isPowerBase, isPowerExponent, isNoPart, isAxisIndex};
 ghost use Rattle.tiles.specs.Mma.{rowOf, columnOf, mmaRanksDiffer, mmaDimsDiffer, isMmaPair, isMmaKinds, scaleRanksDiffer, scaleDimsDiffer, vectorOf, isScaled, isScaleKinds};
 use arith::Product;
 use arith::Remainder;
@@ -83,30 +82,17 @@ fn eight(bits: &[u64]) -> [i64; 8]
     dims
 }
 
-// The number with these bits, or 0 in its place.
-fn kept(keep: bool, bits: u64) -> i64
-    ensures { λ r. ⌜ r ≡ cond keep (signedOf bits) (pos 0) ⌝ }
-{
-    if keep { arith::signed(bits) } else { 0 }
-}
-
-// So many dims of a type's cells, with 0 after them. Whole cells are read all, so that no turn waits for the rank.
-fn dims_of(row: &[u64], rank: u64) -> [i64; 8]
-    ensures { λ r. ⌜ r ≡ eightOf (take rank (drop 8 (now (row .entry)))) ⌝ }
+// The eight dims of a type's cells, with 0 where there are none. Whole cells are copied as they stand.
+fn dims_of(row: &[u64]) -> [i64; 8]
+    ensures { λ r. ⌜ r ≡ eightOf (drop 8 (now (row .entry))) ⌝ }
 {
     if row.len() < 16 {
-        return eight(cells::entries(
-            row,
-            Span {
-                start: 8,
-                len: rank,
-            },
-        ));
+        return eight(cells::entries(row, Span { start: 8, len: 8 }));
     }
     let mut dims = [0i64; 8];
     let mut i: usize = 0;
     while i < 8 {
-        let d = kept((i as u64) < rank, row[8 + i]);
+        let d = arith::signed(row[8 + i]);
         dims[i] = d;
         i += 1;
     }
@@ -120,7 +106,7 @@ fn row_tile(form: u64, row: &[u64]) -> Tile
     let kind = cells::at_u64(row, 1);
     let wanted = cells::least(cells::at_u64(row, 5), tables::MAX_RANK);
     let rank = cells::least(wanted, cells::rest(row.len() as u64, 8));
-    let dims = dims_of(row, rank);
+    let dims = dims_of(row);
     Tile {
         form,
         kind,
@@ -133,8 +119,10 @@ fn row_tile(form: u64, row: &[u64]) -> Tile
 fn type_row(t: &[u64], n: Counts, id: u64) -> &[u64]
     ensures { λ r. ⌜ now r ≡ cellsOf (now (t .entry)) n id ⌝ }
 {
-    let len = if id < n.types { tables::TYPE_CELLS } else { 0 };
-    cells::part_at(t, tables::TYPE_CELLS, id, 0, len)
+    if id < n.types {
+        return cells::part_at(t, tables::TYPE_CELLS, id, 0, tables::TYPE_CELLS);
+    }
+    cells::entries(t, Span { start: 0, len: 0 })
 }
 
 // The cells of a type that is a tile; none of any other.
@@ -157,11 +145,24 @@ pub fn tile_of(row: &[u64]) -> Tile
     row_tile(cells::at_u64(row, 0), row)
 }
 
-// The tile that a type is.
-pub fn type_tile(t: &[u64], sheet: &[u64], n: Counts, id: u64) -> Tile
-    ensures { λ r. ⌜ r ≡ tileIn (now (t .entry)) (now (sheet .entry)) n id ⌝ }
+// The form, the kind and the rank of that tile, where its dims are not asked.
+pub fn form_of(row: &[u64]) -> u64
+    ensures { λ r. ⌜ r ≡ tileRow (now (row .entry)) .form ⌝ }
 {
-    tile_of(seen_row(t, sheet, n, id))
+    cells::at_u64(row, 0)
+}
+
+pub fn kind_of(row: &[u64]) -> u64
+    ensures { λ r. ⌜ r ≡ tileRow (now (row .entry)) .kind ⌝ }
+{
+    cells::at_u64(row, 1)
+}
+
+pub fn rank_of(row: &[u64]) -> u64
+    ensures { λ r. ⌜ r ≡ rankOf (tileRow (now (row .entry))) ⌝ }
+{
+    let wanted = cells::least(cells::at_u64(row, 5), tables::MAX_RANK);
+    cells::least(wanted, cells::rest(row.len() as u64, 8))
 }
 
 // The tile that a view takes and gives.
@@ -273,14 +274,24 @@ pub fn same_dim(a: Tile, i: u64, b: Tile, j: u64) -> bool
     dim(a, i) == dim(b, j)
 }
 
-// The dims are the same, up to the shorter.
+fn same_number(a: i64, b: i64) -> bool
+    ensures { λ r. ⌜ r ≡ eqZ a b ⌝ }
+{
+    a == b
+}
+
+// The dims are the same, up to the shorter. They are read here, since a call would take a copy of the tile at each turn; and eight turns at
+// most are known before, so that no dim is looked up by a number.
 fn same_dims(a: Tile, b: Tile) -> bool
     ensures { λ r. ⌜ r ≡ allPairs eqZ (dimsOf a) (dimsOf b) ⌝ }
 {
-    let n = cells::least(rank(a), rank(b));
-    let mut i: u64 = 0;
-    while i < n {
-        if !same_dim(a, i, b, i) {
+    let n = cells::least(rank(a), rank(b)) as usize;
+    let mut i: usize = 0;
+    while i < 8 {
+        if n <= i {
+            return true;
+        }
+        if !same_number(a.dims[i], b.dims[i]) {
             return false;
         }
         i += 1;
@@ -314,10 +325,13 @@ pub fn undivided(small: i64, large: i64) -> bool
 pub fn uneven(small: Tile, large: Tile) -> bool
     ensures { λ r. ⌜ r ≡ isUneven small large ⌝ }
 {
-    let n = cells::least(rank(small), rank(large));
-    let mut i: u64 = 0;
-    while i < n {
-        if undivided(dim(small, i), dim(large, i)) {
+    let n = cells::least(rank(small), rank(large)) as usize;
+    let mut i: usize = 0;
+    while i < 8 {
+        if n <= i {
+            return false;
+        }
+        if undivided(small.dims[i], large.dims[i]) {
             return true;
         }
         i += 1;
@@ -336,10 +350,13 @@ fn stretches(a: i64, b: i64) -> bool
 pub fn stretched(src: Tile, dst: Tile) -> bool
     ensures { λ r. ⌜ r ≡ isStretched src dst ⌝ }
 {
-    let n = cells::least(rank(src), rank(dst));
-    let mut i: u64 = 0;
-    while i < n {
-        if !stretches(dim(src, i), dim(dst, i)) {
+    let n = cells::least(rank(src), rank(dst)) as usize;
+    let mut i: usize = 0;
+    while i < 8 {
+        if n <= i {
+            return true;
+        }
+        if !stretches(src.dims[i], dst.dims[i]) {
             return false;
         }
         i += 1;
@@ -601,13 +618,6 @@ pub fn is_no_part(small: Tile, large: Tile) -> bool
     !same_element(small, large) | !same_rank(small, large) | uneven(small, large)
 }
 
-// A single I32.
-pub fn is_index(t: Tile) -> bool
-    ensures { λ r. ⌜ r ≡ isIndex t ⌝ }
-{
-    (rank(t) == 0) & has_kind(t, I32)
-}
-
 // ---- views
 
 // An index along a sparse axis.
@@ -640,15 +650,25 @@ pub fn mma_ranks_differ(a: Tile, b: Tile, c: Tile, result: Tile) -> bool
     !((n == 2) | (n == 3)) | !same_rank(b, a) | !same_rank(c, a) | !same_tile(result, c)
 }
 
+// M, N or K differ, where these are the last dim but one and the last.
+fn dims_differ(a: Tile, b: Tile, c: Tile, i: u64, j: u64) -> bool
+    ensures { λ r. ⌜ r ≡ (not (sameDim a i c i) || not (sameDim b j c j) || not (sameDim a j b i)) ⌝ }
+{
+    !same_dim(a, i, c, i) | !same_dim(b, j, c, j) | !same_dim(a, j, b, i)
+}
+
+// The ranks that pass have places of their own: a dim at a known place is read without a copy of the tile.
 pub fn mma_dims_differ(a: Tile, b: Tile, c: Tile) -> bool
     ensures { λ r. ⌜ r ≡ mmaDimsDiffer a b c ⌝ }
 {
-    let i = row(a);
-    let j = column(a);
-    !same_dim(a, i, c, i)
-        | !same_dim(b, j, c, j)
-        | !same_dim(a, j, b, i)
-        | ((rank(a) == 3) & (!same_dim(a, 0, b, 0) | !same_dim(a, 0, c, 0)))
+    let n = rank(a);
+    if n == 2 {
+        return dims_differ(a, b, c, 0, 1);
+    }
+    if n == 3 {
+        return dims_differ(a, b, c, 1, 2) | (!same_dim(a, 0, b, 0) | !same_dim(a, 0, c, 0));
+    }
+    dims_differ(a, b, c, row(a), column(a))
 }
 
 // The accumulators that MmaF takes for an input.

@@ -27,11 +27,11 @@ shared-slice-read-value-type c = omega arith
 value-type-requires : tie.Need-value-type-requires Inv-loop μ-loop
 value-type-requires c κs = search needs
 
-type-tile-requires : tie.Need-type-tile-requires Inv-loop μ-loop
-type-tile-requires c κs = search needs
+seen-row-requires : tie.Need-seen-row-requires Inv-loop μ-loop
+seen-row-requires c κs = search needs
 
-is-wrong-mask-requires : tie.Need-is-wrong-mask-requires Inv-loop μ-loop
-is-wrong-mask-requires c κs = search needs
+is-wrong-row-requires : tie.Need-is-wrong-row-requires Inv-loop μ-loop
+is-wrong-row-requires c κs = search needs
 
 returns : tie.Need-returns Inv-loop μ-loop
 returns c =
@@ -39,7 +39,7 @@ returns c =
     let s = l .before .before .before .before .before .args in
     sym (l .loop .inv
     ∙ wrong-here (s .t .now) (s .v .now) (s .sheet .now) (s .n) (s .val) (s .operands .now) (l .loop .k) (c .before .before .before .before .before .loop-test .taken)
-    (rw (← c .before .before .before .value-type .ensures, ← c .before .before .type-tile .ensures) (sym (c .before .is-wrong-mask .ensures) ∙ c .if1 .taken)))
+    (rw (← c .before .before .before .value-type .ensures, ← c .before .before .seen-row .ensures) (sym (c .before .is-wrong-row .ensures) ∙ c .if1 .taken)))
 
 add-k : tie.Need-add-k Inv-loop μ-loop
 add-k c = omega arith
@@ -53,7 +53,7 @@ loop-again c =
     let s = l .before .before .before .before .before .args in
     l .loop .inv
     ∙ wrong-later (s .t .now) (s .v .now) (s .sheet .now) (s .n) (s .val) (s .operands .now) (l .loop .k) (c .before .before .before .before .before .loop-test .taken)
-    (rw (← c .before .before .before .value-type .ensures, ← c .before .before .type-tile .ensures) (sym (c .before .is-wrong-mask .ensures) ∙ c .if1 .left))
+    (rw (← c .before .before .before .value-type .ensures, ← c .before .before .seen-row .ensures) (sym (c .before .is-wrong-row .ensures) ∙ c .if1 .left))
 
 returns-2 : tie.Need-returns-2 Inv-loop μ-loop
 returns-2 c =
@@ -72,8 +72,8 @@ any-wrong-mask-spec =
     mul-value-type
     shared-slice-read-value-type
     value-type-requires
-    type-tile-requires
-    is-wrong-mask-requires
+    seen-row-requires
+    is-wrong-row-requires
     returns
     add-k
     loop-less

@@ -6,17 +6,18 @@ use mathlib.Core.Bool.{not}
 use borrow.Author.Needs.{needs}
 use lib.ListN.{length}
 use Rattle.cells.specs.Lists.{from}
+use Rattle.tables.specs.Layout.{operandsIn}
 use Rattle.rules_matrix.specs.Part.{any, isNoIndex, indicesDiffer}
-use Rattle.rules_matrix.proofs.Indices.{any-here, any-later, any-end, other-count, same-count}
+use Rattle.rules_matrix.proofs.Indices.{operand-is, any-here, any-later, any-end, other-count, same-count}
 use Rattle.rules_matrix.proofs.indices_differ.Statement.{statement}
 use Rattle.rules_matrix.proofs.indices_differ.Tie as tie
 
 abbrev Inv-loop : tie.InvT-loop
-Inv-loop t v o l sheet n operation offset rank count k₀ k =
+Inv-loop t v o l sheet n operation offset rank operands count k₀ k =
     (count ≡ offset + rank) × (offset ≤ k) × (k ≤ count) × (any (isNoIndex t v o l sheet n operation) (from offset rank) ≡ any (isNoIndex t v o l sheet n operation) (from k (count - k)))
 
 abbrev μ-loop : tie.MeasureT-loop
-μ-loop t v o l sheet n operation offset rank count k₀ k = count - k
+μ-loop t v o l sheet n operation offset rank operands count k₀ k = count - k
 
 operands-requires : tie.Need-operands-requires Inv-loop μ-loop
 operands-requires c κs = search needs
@@ -38,17 +39,22 @@ loop-holds : tie.Need-loop-holds Inv-loop μ-loop
 loop-holds c =
     (as-many c, omega arith, omega arith, rw (c .if2 .left))
 
-operand-tile-requires : tie.Need-operand-tile-requires Inv-loop μ-loop
-operand-tile-requires c κs = search needs
+at-u64-requires : tie.Need-at-u64-requires Inv-loop μ-loop
+at-u64-requires c κs = search needs
 
-is-index-requires : tie.Need-is-index-requires Inv-loop μ-loop
-is-index-requires c κs = search needs
+is-index-value-requires : tie.Need-is-index-value-requires Inv-loop μ-loop
+is-index-value-requires c κs = search needs
 
 -- whether operand k is an index, as the call says
-tested : (c : tie.After-is-index Inv-loop μ-loop) →
-    let s = c .before .before .before .before .before .before .before .before .before .before .before .before .args in isNoIndex (s .t .now) (s .v .now) (s .o .now) (s .l .now) (s .sheet .now) (s .n) (s .operation) (c .before .before .before .loop .k) ≡ not (c .is-index .result)
+tested : (c : tie.After-is-index-value Inv-loop μ-loop) →
+    let s = c .before .before .before .before .before .before .before .before .before .before .before .before .args in isNoIndex (s .t .now) (s .v .now) (s .o .now) (s .l .now) (s .sheet .now) (s .n) (s .operation) (c .before .before .before .loop .k) ≡ not (c .is-index-value .result)
 unfolding isNoIndex
-tested c = rw (← c .before .operand-tile .ensures, ← c .is-index .ensures)
+tested c =
+    let l = c .before .before .before in
+    let s = l .before .before .before .before .before .before .before .before .before .args in
+    let vs = l .before .before .before .operands in
+    let there : l .loop .k < length (operandsIn (s .o .now) (s .l .now) (s .n) (s .operation)) = rw (← vs .ensures) (c .before .before .loop-test .taken) in
+    rw (operand-is (s .t .now) (s .v .now) (s .o .now) (s .l .now) (s .sheet .now) (s .n) (s .operation) (l .loop .k) there, ← vs .ensures, ← c .before .at-u64 .ensures, ← c .is-index-value .ensures)
 
 -- the count is right, so the operands decide
 past : (c : tie.At-loop Inv-loop μ-loop) →
@@ -96,8 +102,8 @@ indices-differ-spec =
     returns
     returns-2
     loop-holds
-    operand-tile-requires
-    is-index-requires
+    at-u64-requires
+    is-index-value-requires
     returns-3
     add-k
     loop-less

@@ -1,25 +1,26 @@
--- `dims_of` meets its contract: each dim before i stands in its place, those past the rank as 0.
-use mathlib.Core.Path.{_≡_, refl, _∙_}
+-- `dims_of` meets its contract: each dim before i stands in its place.
+use mathlib.Core.Path.{_≡_, refl, sym, ap, _∙_}
 use Prim.Native.Nat.{ℕ, _-_, _≤_, _<_}
 use native.Mathlib.Omega.{arith}
 use borrow.Author.Needs.{needs}
 use lib.IntN.{pos}
-use lib.ListN.{length, getD, take, drop, length-set}
+use lib.ListN.{length, getD, drop, length-set, length-drop}
+use lib.Seq.{getD-drop, take-all}
 use mir.Syntax.{w64}
 use mir.Val.{SFits}
 use mir.Facts.{toZ-ofZ}
 use Rattle.arith.specs.Signed.{signedOf}
 use Rattle.tiles.proofs.Dims.{fill-step, eight-is}
-use Rattle.tiles.proofs.Rows.{kept-at}
+use Rattle.tiles.specs.Tile.{eightOf}
 use Rattle.tiles.proofs.dims_of.Statement.{statement}
 use Rattle.tiles.proofs.dims_of.Tie as tie
 
 abbrev Inv-loop : tie.InvT-loop
-Inv-loop row rank dims₀ i₀ dims i =
-    (i ≤ 8) × (length dims ≡ 8) × ((k : ℕ) → k < i → getD dims k (pos 0) ≡ signedOf (getD (take rank (drop 8 row)) k 0))
+Inv-loop row dims₀ i₀ dims i =
+    (i ≤ 8) × (length dims ≡ 8) × ((k : ℕ) → k < i → getD dims k (pos 0) ≡ signedOf (getD (drop 8 row) k 0))
 
 abbrev μ-loop : tie.MeasureT-loop
-μ-loop row rank dims₀ i₀ dims i = 8 - i
+μ-loop row dims₀ i₀ dims i = 8 - i
 
 entries-requires : tie.Need-entries-requires Inv-loop μ-loop
 entries-requires c κs = search needs
@@ -28,22 +29,24 @@ eight-requires : tie.Need-eight-requires Inv-loop μ-loop
 eight-requires c κs = search needs
 
 returns : tie.Need-returns Inv-loop μ-loop
-returns c = rw (← c .before .entries .ensures) (c .eight .ensures)
+returns c =
+    let row = c .before .before .before .before .args .row .now in
+    c .eight .ensures ∙ ap eightOf (c .before .entries .ensures ∙ take-all 8 (drop 8 row) (simp length-drop (omega arith)))
 
 loop-holds : tie.Need-loop-holds Inv-loop μ-loop
 loop-holds c = (omega arith, refl, λ k h. absurd (omega arith))
 
-add-kept : tie.Need-add-kept Inv-loop μ-loop
-add-kept c = omega arith
+add-signed : tie.Need-add-signed Inv-loop μ-loop
+add-signed c = omega arith
 
-mul-kept : tie.Need-mul-kept Inv-loop μ-loop
-mul-kept c = search needs
+mul-signed : tie.Need-mul-signed Inv-loop μ-loop
+mul-signed c = search needs
 
-shared-slice-read-kept : tie.Need-shared-slice-read-kept Inv-loop μ-loop
-shared-slice-read-kept c = omega arith
+shared-slice-read-signed : tie.Need-shared-slice-read-signed Inv-loop μ-loop
+shared-slice-read-signed c = omega arith
 
-kept-requires : tie.Need-kept-requires Inv-loop μ-loop
-kept-requires c κs = search needs
+signed-requires : tie.Need-signed-requires Inv-loop μ-loop
+signed-requires c κs = search needs
 
 mul-dims : tie.Need-mul-dims Inv-loop μ-loop
 mul-dims c = search needs
@@ -59,20 +62,19 @@ loop-less c = omega arith
 
 loop-again : tie.Need-loop-again Inv-loop μ-loop
 loop-again c =
-    let f : SFits w64 (c .kept .result) = search needs in
+    let f : SFits w64 (c .signed .result) = search needs in
     let l = c .before .before .before .loop in
-    let a = c .before .before .before .before .before .before .args in (
+    let row = c .before .before .before .before .before .before .args .row .now in (
       omega arith,
       simp length-set (l .inv .1),
-      fill-step (l .dims) (l .i) _ (λ (k : ℕ). signedOf (getD (take (a .rank) (drop 8 (a .row .now))) k 0)) (omega (arith, l .inv .1)) (l .inv .2)
-          (toZ-ofZ f ∙ c .kept .ensures ∙ kept-at (a .row .now) (a .rank) (l .i)),
+      fill-step (l .dims) (l .i) _ (λ (k : ℕ). signedOf (getD (drop 8 row) k 0)) (omega (arith, l .inv .1)) (l .inv .2)
+          (toZ-ofZ f ∙ c .signed .ensures ∙ ap signedOf (sym (getD-drop 8 row (l .i) 0))),
     )
 
 returns-2 : tie.Need-returns-2 Inv-loop μ-loop
 returns-2 c =
     let l = c .before .loop in
-    let a = c .before .before .before .before .args in
-    eight-is (l .dims) (take (a .rank) (drop 8 (a .row .now))) (l .inv .1) (λ k h. l .inv .2 k (omega arith))
+    eight-is (l .dims) (drop 8 (c .before .before .before .before .args .row .now)) (l .inv .1) (λ k h. l .inv .2 k (omega arith))
 
 pub dims-of-spec : {M : Type 1} → statement M
 dims-of-spec =
@@ -84,10 +86,10 @@ dims-of-spec =
     eight-requires
     returns
     loop-holds
-    add-kept
-    mul-kept
-    shared-slice-read-kept
-    kept-requires
+    add-signed
+    mul-signed
+    shared-slice-read-signed
+    signed-requires
     mul-dims
     array-set-from-dims
     add-i

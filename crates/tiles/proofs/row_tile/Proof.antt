@@ -1,11 +1,9 @@
 -- `row_tile` meets its contract: each field is what is read of the cells.
 use borrow.Author.Needs.{needs}
-use mathlib.Core.Path.{_≡_, sym, ap, _∙_}
-use mathlib.Core.List.{List}
+use mathlib.Core.Path.{_≡_, ap, _∙_}
 use Prim.Native.Nat.{ℕ, min}
-use lib.ListN.{length, getD, take, drop, length-take, length-drop}
-use Rattle.tiles.specs.Tile.{rowTile, eightOf}
-use Rattle.tiles.proofs.Rows.{take-least}
+use lib.ListN.{length, getD, drop, length-take, length-drop}
+use Rattle.tiles.specs.Tile.{rowTile}
 use Rattle.tiles.proofs.row_tile.Statement.{statement}
 use Rattle.tiles.proofs.row_tile.Tie as tie
 
@@ -35,8 +33,7 @@ returns c =
     let dims = drop 8 row in
     let asked : c .before .before .before .least .result ≡ wanted = c .before .before .before .least .ensures ∙ ap (λ (k : ℕ). min k 8) (c .before .before .before .before .at-u642 .ensures) in
     let rank : c .before .least2 .result ≡ min wanted (length dims) = c .before .least2 .ensures ∙ rw (asked, c .before .before .rest .ensures, length-drop 8 row) in
-    let shape : c .dims-of .result ≡ eightOf (take wanted dims) = c .dims-of .ensures ∙ ap eightOf (ap (λ (k : ℕ). take k dims) rank ∙ take-least wanted dims) in
-    rw (shape, rank, length-take wanted dims, c .before .before .before .before .before .at-u64 .ensures)
+    rw (c .dims-of .ensures, rank, length-take wanted dims, c .before .before .before .before .before .at-u64 .ensures)
 
 pub row-tile-spec : {M : Type 1} → statement M
 row-tile-spec =

@@ -5,9 +5,14 @@ use native.Mathlib.Omega.{arith}
 use borrow.Author.Needs.{needs}
 use borrow.Author.Tests.{not-true, not-false}
 use lib.IntN.{pos}
-use lib.ListN.{drop, getD}
+use lib.ListN.{length, drop, getD}
+use mir.Syntax.{w64}
+use mir.Val.{SFits}
+use mir.Facts.{toZ-ofZ}
 use Rattle.tiles.specs.Tile.{dimsOf, rankOf, dimOf}
-use Rattle.tiles.specs.Shape.{eqZ, allPairs, sameDim}
+use Rattle.tiles.specs.Shape.{eqZ, allPairs}
+use Rattle.tiles.proofs.Elements.{fits}
+use Rattle.tiles.proofs.Dims.{rank-is, dim-is}
 use Rattle.tiles.proofs.Pairs.{all-not, all-later, all-end}
 use Rattle.tiles.proofs.same_dims.Statement.{statement}
 use Rattle.tiles.proofs.same_dims.Tie as tie
@@ -17,7 +22,7 @@ Inv-loop a b n i₀ i =
     (n ≡ min (rankOf a) (rankOf b)) × (i ≤ n) × (allPairs eqZ (dimsOf a) (dimsOf b) ≡ allPairs eqZ (drop i (dimsOf a)) (drop i (dimsOf b)))
 
 abbrev μ-loop : tie.MeasureT-loop
-μ-loop a b n i₀ i = n - i
+μ-loop a b n i₀ i = 8 - i
 
 rank-requires : tie.Need-rank-requires Inv-loop μ-loop
 rank-requires c κs = search needs
@@ -32,28 +37,54 @@ loop-holds : tie.Need-loop-holds Inv-loop μ-loop
 loop-holds c =
     (rw (c .least .ensures, c .before .rank2 .ensures, c .before .before .rank .ensures), omega arith, refl)
 
-same-dim-requires : tie.Need-same-dim-requires Inv-loop μ-loop
-same-dim-requires c κs = search needs
-
 -- a pair of dims is left
-left : (c : tie.In-loop Inv-loop μ-loop) →
-    let s = c .before .before .before .before .before .args in c .before .loop .i < min (rankOf (s .a)) (rankOf (s .b))
-left c = omega (arith, c .before .loop .inv .0)
+left : (c : tie.Else1 Inv-loop μ-loop) →
+    let s = c .before .before .before .before .before .before .args in c .before .before .loop .i < min (rankOf (s .t1)) (rankOf (s .t2))
+left c = omega (arith, c .before .before .loop .inv .0)
+
+mul-same-number : tie.Need-mul-same-number Inv-loop μ-loop
+mul-same-number c = let b = c .before .loop-test .taken in record { fits = omega (arith, b) }
+
+element-copy-out-same-number : tie.Need-element-copy-out-same-number Inv-loop μ-loop
+element-copy-out-same-number c = c .before .loop-test .taken
+
+mul-same-number-2 : tie.Need-mul-same-number-2 Inv-loop μ-loop
+mul-same-number-2 c = let b = c .before .before .loop-test .taken in record { fits = omega (arith, b) }
+
+element-copy-out-same-number-2 : tie.Need-element-copy-out-same-number-2 Inv-loop μ-loop
+element-copy-out-same-number-2 c = c .before .before .loop-test .taken
+
+same-number-requires : tie.Need-same-number-requires Inv-loop μ-loop
+same-number-requires c κs = search needs
 
 -- the call tests that pair
-called : (c : tie.After-same-dim Inv-loop μ-loop) →
-    let l = c .before .before in
+called : (c : tie.After-same-number Inv-loop μ-loop) →
+    let l = c .before .before .before .before .before in
     let s = l .before .before .before .before .args in
-    c .same-dim .result ≡ eqZ (getD (dimsOf (s .a)) (l .loop .i) (pos 0)) (getD (dimsOf (s .b)) (l .loop .i) (pos 0))
-unfolding sameDim dimOf
-called c = c .same-dim .ensures
+    c .same-number .result ≡ eqZ (getD (dimsOf (s .t1)) (l .loop .i) (pos 0)) (getD (dimsOf (s .t2)) (l .loop .i) (pos 0))
+unfolding dimOf
+called c =
+    let l = c .before .before .before .before .before in
+    let s = l .before .before .before .before .args in
+    let here = left (c .before .before .before) in
+    let f : SFits w64 (getD (s .t1 .dims) (l .loop .i) (pos 0)) = search fits in
+    let g : SFits w64 (getD (s .t2 .dims) (l .loop .i) (pos 0)) = search fits in
+    simp (toZ-ofZ f, toZ-ofZ g) at (c .same-number .ensures)
+    ∙ sym (rw (dim-is (s .t1) (l .loop .i) (omega (arith, here)), dim-is (s .t2) (l .loop .i) (omega (arith, here))))
 
 returns : tie.Need-returns Inv-loop μ-loop
 unfolding rankOf
 returns c =
-    let l = c .before .before .before in
+    let l = c .before .before in
     let s = l .before .before .before .before .args in
-    sym (l .loop .inv .2 ∙ all-not eqZ (dimsOf (s .a)) (dimsOf (s .b)) (l .loop .i) (left (c .before .before)) (sym (called (c .before)) ∙ not-true _ (c .if1 .taken)))
+    sym (l .loop .inv .2 ∙ all-end eqZ (dimsOf (s .t1)) (dimsOf (s .t2)) (l .loop .i) (omega (arith, l .loop .inv .0)))
+
+returns-2 : tie.Need-returns-2 Inv-loop μ-loop
+unfolding rankOf
+returns-2 c =
+    let l = c .before .before .before .before .before .before in
+    let s = l .before .before .before .before .args in
+    sym (l .loop .inv .2 ∙ all-not eqZ (dimsOf (s .t1)) (dimsOf (s .t2)) (l .loop .i) (left (c .before .before .before .before)) (sym (called (c .before)) ∙ not-true _ (c .if2 .taken)))
 
 add-i : tie.Need-add-i Inv-loop μ-loop
 add-i c = omega arith
@@ -64,19 +95,20 @@ loop-less c = omega arith
 loop-again : tie.Need-loop-again Inv-loop μ-loop
 unfolding rankOf
 loop-again c =
-    let l = c .before .before .before in
+    let l = c .before .before .before .before .before .before in
     let s = l .before .before .before .before .args in (
       l .loop .inv .0,
       omega arith,
-      l .loop .inv .2 ∙ all-later eqZ (dimsOf (s .a)) (dimsOf (s .b)) (l .loop .i) (left (c .before .before)) (sym (called (c .before)) ∙ not-false _ (c .if1 .left)),
+      l .loop .inv .2 ∙ all-later eqZ (dimsOf (s .t1)) (dimsOf (s .t2)) (l .loop .i) (left (c .before .before .before .before)) (sym (called (c .before)) ∙ not-false _ (c .if2 .left)),
     )
 
-returns-2 : tie.Need-returns-2 Inv-loop μ-loop
+returns-3 : tie.Need-returns-3 Inv-loop μ-loop
 unfolding rankOf
-returns-2 c =
+returns-3 c =
     let l = c .before in
     let s = l .before .before .before .before .args in
-    sym (l .loop .inv .2 ∙ all-end eqZ (dimsOf (s .a)) (dimsOf (s .b)) (l .loop .i) (omega (arith, l .loop .inv .0)))
+    let held : length (s .t1 .dims) ≡ 8 = search needs in
+    sym (l .loop .inv .2 ∙ all-end eqZ (dimsOf (s .t1)) (dimsOf (s .t2)) (l .loop .i) (omega (arith, rank-is (s .t1) held)))
 
 pub same-dims-spec : {M : Type 1} → statement M
 same-dims-spec =
@@ -88,9 +120,14 @@ same-dims-spec =
     rank-requires-2
     least-requires
     loop-holds
-    same-dim-requires
     returns
+    mul-same-number
+    element-copy-out-same-number
+    mul-same-number-2
+    element-copy-out-same-number-2
+    same-number-requires
+    returns-2
     add-i
     loop-less
     loop-again
-    returns-2)
+    returns-3)

@@ -4,12 +4,14 @@ use Prim.Native.Nat.{_-_, _≤_, _<_, min}
 use native.Mathlib.Omega.{arith}
 use borrow.Author.Needs.{needs}
 use lib.IntN.{pos}
-use lib.ListN.{drop, getD}
+use lib.ListN.{length, drop, getD}
 use mir.Syntax.{w64}
 use mir.Val.{SFits}
 use mir.Facts.{toZ-ofZ}
 use Rattle.tiles.specs.Tile.{dimsOf, rankOf, dimOf}
 use Rattle.tiles.specs.Shape.{anyPair, undividedBy, isUneven}
+use Rattle.tiles.proofs.Elements.{fits}
+use Rattle.tiles.proofs.Dims.{rank-is, dim-is}
 use Rattle.tiles.proofs.Pairs.{any-here, any-later, any-end}
 use Rattle.tiles.proofs.uneven.Statement.{statement}
 use Rattle.tiles.proofs.uneven.Tie as tie
@@ -19,7 +21,7 @@ Inv-loop small large n i₀ i =
     (n ≡ min (rankOf small) (rankOf large)) × (i ≤ n) × (anyPair undividedBy (dimsOf small) (dimsOf large) ≡ anyPair undividedBy (drop i (dimsOf small)) (drop i (dimsOf large)))
 
 abbrev μ-loop : tie.MeasureT-loop
-μ-loop small large n i₀ i = n - i
+μ-loop small large n i₀ i = 8 - i
 
 rank-requires : tie.Need-rank-requires Inv-loop μ-loop
 rank-requires c κs = search needs
@@ -34,37 +36,54 @@ loop-holds : tie.Need-loop-holds Inv-loop μ-loop
 loop-holds c =
     (rw (c .least .ensures, c .before .rank2 .ensures, c .before .before .rank .ensures), omega arith, refl)
 
-dim-requires : tie.Need-dim-requires Inv-loop μ-loop
-dim-requires c κs = search needs
+-- a pair of dims is left
+left : (c : tie.Else1 Inv-loop μ-loop) →
+    let s = c .before .before .before .before .before .before .args in c .before .before .loop .i < min (rankOf (s .t1)) (rankOf (s .t2))
+left c = omega (arith, c .before .before .loop .inv .0)
 
-dim-requires-2 : tie.Need-dim-requires-2 Inv-loop μ-loop
-dim-requires-2 c κs = search needs
+mul-undivided : tie.Need-mul-undivided Inv-loop μ-loop
+mul-undivided c = let b = c .before .loop-test .taken in record { fits = omega (arith, b) }
+
+element-copy-out-undivided : tie.Need-element-copy-out-undivided Inv-loop μ-loop
+element-copy-out-undivided c = c .before .loop-test .taken
+
+mul-undivided-2 : tie.Need-mul-undivided-2 Inv-loop μ-loop
+mul-undivided-2 c = let b = c .before .before .loop-test .taken in record { fits = omega (arith, b) }
+
+element-copy-out-undivided-2 : tie.Need-element-copy-out-undivided-2 Inv-loop μ-loop
+element-copy-out-undivided-2 c = c .before .before .loop-test .taken
 
 undivided-requires : tie.Need-undivided-requires Inv-loop μ-loop
 undivided-requires c κs = search needs
 
--- a pair of dims is left
-left : (c : tie.In-loop Inv-loop μ-loop) →
-    let s = c .before .before .before .before .before .args in c .before .loop .i < min (rankOf (s .small)) (rankOf (s .large))
-left c = omega (arith, c .before .loop .inv .0)
-
 -- the call tests that pair
 called : (c : tie.After-undivided Inv-loop μ-loop) →
-    let l = c .before .before .before .before in
+    let l = c .before .before .before .before .before in
     let s = l .before .before .before .before .args in
-    c .undivided .result ≡ undividedBy (getD (dimsOf (s .small)) (l .loop .i) (pos 0)) (getD (dimsOf (s .large)) (l .loop .i) (pos 0))
+    c .undivided .result ≡ undividedBy (getD (dimsOf (s .t1)) (l .loop .i) (pos 0)) (getD (dimsOf (s .t2)) (l .loop .i) (pos 0))
 unfolding dimOf
 called c =
-    let f : SFits w64 (c .before .before .dim .result) = search needs in
-    let g : SFits w64 (c .before .dim2 .result) = search needs in
-    simp (toZ-ofZ f, toZ-ofZ g) at (c .undivided .ensures) ∙ rw (c .before .before .dim .ensures, c .before .dim2 .ensures)
+    let l = c .before .before .before .before .before in
+    let s = l .before .before .before .before .args in
+    let here = left (c .before .before .before) in
+    let f : SFits w64 (getD (s .t1 .dims) (l .loop .i) (pos 0)) = search fits in
+    let g : SFits w64 (getD (s .t2 .dims) (l .loop .i) (pos 0)) = search fits in
+    simp (toZ-ofZ f, toZ-ofZ g) at (c .undivided .ensures)
+    ∙ sym (rw (dim-is (s .t1) (l .loop .i) (omega (arith, here)), dim-is (s .t2) (l .loop .i) (omega (arith, here))))
 
 returns : tie.Need-returns Inv-loop μ-loop
 unfolding isUneven rankOf
 returns c =
-    let l = c .before .before .before .before .before in
+    let l = c .before .before in
     let s = l .before .before .before .before .args in
-    sym (l .loop .inv .2 ∙ any-here undividedBy (dimsOf (s .small)) (dimsOf (s .large)) (l .loop .i) (left (c .before .before .before .before)) (sym (called (c .before)) ∙ c .if1 .taken))
+    sym (l .loop .inv .2 ∙ any-end undividedBy (dimsOf (s .t1)) (dimsOf (s .t2)) (l .loop .i) (omega (arith, l .loop .inv .0)))
+
+returns-2 : tie.Need-returns-2 Inv-loop μ-loop
+unfolding isUneven rankOf
+returns-2 c =
+    let l = c .before .before .before .before .before .before in
+    let s = l .before .before .before .before .args in
+    sym (l .loop .inv .2 ∙ any-here undividedBy (dimsOf (s .t1)) (dimsOf (s .t2)) (l .loop .i) (left (c .before .before .before .before)) (sym (called (c .before)) ∙ c .if2 .taken))
 
 add-i : tie.Need-add-i Inv-loop μ-loop
 add-i c = omega arith
@@ -75,19 +94,20 @@ loop-less c = omega arith
 loop-again : tie.Need-loop-again Inv-loop μ-loop
 unfolding rankOf
 loop-again c =
-    let l = c .before .before .before .before .before in
+    let l = c .before .before .before .before .before .before in
     let s = l .before .before .before .before .args in (
       l .loop .inv .0,
       omega arith,
-      l .loop .inv .2 ∙ any-later undividedBy (dimsOf (s .small)) (dimsOf (s .large)) (l .loop .i) (left (c .before .before .before .before)) (sym (called (c .before)) ∙ c .if1 .left),
+      l .loop .inv .2 ∙ any-later undividedBy (dimsOf (s .t1)) (dimsOf (s .t2)) (l .loop .i) (left (c .before .before .before .before)) (sym (called (c .before)) ∙ c .if2 .left),
     )
 
-returns-2 : tie.Need-returns-2 Inv-loop μ-loop
+returns-3 : tie.Need-returns-3 Inv-loop μ-loop
 unfolding isUneven rankOf
-returns-2 c =
+returns-3 c =
     let l = c .before in
     let s = l .before .before .before .before .args in
-    sym (l .loop .inv .2 ∙ any-end undividedBy (dimsOf (s .small)) (dimsOf (s .large)) (l .loop .i) (omega (arith, l .loop .inv .0)))
+    let held : length (s .t1 .dims) ≡ 8 = search needs in
+    sym (l .loop .inv .2 ∙ any-end undividedBy (dimsOf (s .t1)) (dimsOf (s .t2)) (l .loop .i) (omega (arith, rank-is (s .t1) held)))
 
 pub uneven-spec : {M : Type 1} → statement M
 uneven-spec =
@@ -99,11 +119,14 @@ uneven-spec =
     rank-requires-2
     least-requires
     loop-holds
-    dim-requires
-    dim-requires-2
-    undivided-requires
     returns
+    mul-undivided
+    element-copy-out-undivided
+    mul-undivided-2
+    element-copy-out-undivided-2
+    undivided-requires
+    returns-2
     add-i
     loop-less
     loop-again
-    returns-2)
+    returns-3)

@@ -1,0 +1,15 @@
+-- `kind_of` meets its contract: it is the cell that is read.
+use borrow.Author.Needs.{needs}
+use Rattle.tiles.specs.Tile.{rowTile}
+use Rattle.tiles.proofs.kind_of.Statement.{statement}
+use Rattle.tiles.proofs.kind_of.Tie as tie
+
+at-u64-requires : tie.Need-at-u64-requires
+at-u64-requires c κs = search needs
+
+returns : tie.Need-returns
+unfolding rowTile
+returns c = c .at-u64 .ensures
+
+pub kind-of-spec : {M : Type 1} → statement M
+kind-of-spec = tie.close (tie.spec at-u64-requires returns)
