@@ -4,6 +4,7 @@ ghost use mathlib.Core.Bool.{_||_};
 ghost use mathlib.Core.List.{[]};
 ghost use lib.Dec.{eqb, leb};
 ghost use Rattle.tables.specs.Tables.{lent};
+ghost use Rattle.tiles.specs.Tile.{tileRow, isNumber, isPointer};
 ghost use Rattle.lookups.specs.Lookup.{isAbsent, isSome};
 ghost use Rattle.rules_small.specs.Rounding.{isContained, isRounding, fToI, addF, exp, fToF, flushed};
 ghost use Rattle.rules_small.specs.Memory.{pointerBy, makeView, isNegative, isMisaligned, alloca};
@@ -61,9 +62,10 @@ pub fn exp(
     if !((rounding == 4) | (rounding == 5)) {
         return Verdict::Broken(1);
     }
-    let source = lookups::operand_tile(t, v, o, l, sheet, n, operation, 0);
-    if (rounding == 4) & !tiles::has_kind(source, tiles::F32) {
-        return Verdict::Broken(2);
+    if rounding == 4 {
+        if !lookups::operand_has_kind(t, v, o, l, sheet, n, operation, 0, tiles::F32) {
+            return Verdict::Broken(2);
+        }
     }
     Verdict::Holds
 }
@@ -113,6 +115,13 @@ fn is_misaligned(bits: u64, natural: u64) -> bool
     (bits == 0) | is_negative(bits) | !arith::power_of_two(bits) | (bits < natural)
 }
 
+// The cells of a tile of pointers.
+fn is_pointer(row: &[u64]) -> bool
+    ensures { λ r. ⌜ r ≡ isPointer (tileRow (now (row .entry))) ⌝ }
+{
+    tiles::form_of(row) == 2
+}
+
 // Alloca: so many elements, aligned.
 pub fn alloca(
     t: &[u64],
@@ -131,14 +140,15 @@ pub fn alloca(
     }
     let found = lookups::integer(o, a, l, n, operation, names::ALIGNMENT);
     let alignment = lookups::number_or(found, 0);
-    let result = lookups::result_tile(t, o, l, sheet, n, operation);
-    if !tiles::is_pointer(result) {
+    let typed = lookups::result_type(o, l, n, operation);
+    let result = lookups::row_by(t, sheet, n, typed);
+    if !is_pointer(result) {
         return Verdict::Broken(2);
     }
     if is_negative(lookups::number_or(count, 0)) {
         return Verdict::Broken(3);
     }
-    if is_misaligned(alignment, tables::byte_width(sheet, result.kind)) {
+    if is_misaligned(alignment, tables::byte_width(sheet, tiles::kind_of(result))) {
         return Verdict::Broken(4);
     }
     Verdict::Holds
@@ -280,6 +290,13 @@ fn is_rounded(sheet: &[u64], version: u64, src: u64, dst: u64, rounding: Found) 
     }
 }
 
+// The cells of a tile of numbers.
+fn is_number(row: &[u64]) -> bool
+    ensures { λ r. ⌜ r ≡ isNumber (tileRow (now (row .entry))) ⌝ }
+{
+    tiles::form_of(row) == 1
+}
+
 // FToF: between two float kinds, by a rounding that they take.
 pub fn f_to_f(
     version: u64,
@@ -294,25 +311,29 @@ pub fn f_to_f(
 ) -> Verdict
     ensures { λ r. ⌜ r ≡ fToF version (now (sheet .entry)) (lent (now (t .entry)) (now (v .entry)) (now (o .entry)) (now (a .entry)) [] [] [] (now (l .entry)) n) operation ⌝ }
 {
-    let src = lookups::operand_tile(t, v, o, l, sheet, n, operation, 0);
-    if !tiles::is_number(src) {
+    let taken = lookups::operand_type(v, o, l, n, operation, 0);
+    let src = lookups::row_by(t, sheet, n, taken);
+    if !is_number(src) {
         return Verdict::Broken(1);
     }
-    let dst = lookups::result_tile(t, o, l, sheet, n, operation);
-    if !tiles::is_number(dst) {
+    let given = lookups::result_type(o, l, n, operation);
+    let dst = lookups::row_by(t, sheet, n, given);
+    if !is_number(dst) {
         return Verdict::Broken(2);
     }
-    if tiles::is_integer(src.kind) {
+    let from = tiles::kind_of(src);
+    if tiles::is_integer(from) {
         return Verdict::Broken(3);
     }
-    if tiles::is_integer(dst.kind) {
+    let to = tiles::kind_of(dst);
+    if tiles::is_integer(to) {
         return Verdict::Broken(4);
     }
-    if src.kind == dst.kind {
+    if from == to {
         return Verdict::Broken(5);
     }
     let rounding = lookups::integer(o, a, l, n, operation, names::ROUNDING_MODE);
-    if !is_rounded(sheet, version, src.kind, dst.kind, rounding) {
+    if !is_rounded(sheet, version, from, to, rounding) {
         return Verdict::Broken(6);
     }
     Verdict::Holds
@@ -334,8 +355,7 @@ pub fn flushed(
     if !lookups::flushes(o, a, l, n, operation) {
         return Verdict::Holds;
     }
-    let source = lookups::operand_tile(t, v, o, l, sheet, n, operation, 0);
-    if !tiles::has_kind(source, tiles::F32) {
+    if !lookups::operand_has_kind(t, v, o, l, sheet, n, operation, 0, tiles::F32) {
         return Verdict::Broken(99);
     }
     Verdict::Holds

@@ -1,4 +1,5 @@
 -- `alloca` meets its contract: each return by the tests that led to it.
+use Rattle.lookups.specs.Typed.{resultTileIn}
 use Rattle.lookups.specs.Verdict.{failIf}
 use Rattle.rules_small.specs.Memory.{alloca}
 use borrow.Author.Needs.{needs}
@@ -12,7 +13,7 @@ is-absent-requires : tie.Need-is-absent-requires
 is-absent-requires c κs = search needs
 
 returns : tie.Need-returns
-unfolding alloca failIf
+unfolding alloca failIf resultTileIn
 returns c = rw (← c .before .before .integer .ensures, ← c .before .is-absent .ensures, c .if1 .taken)
 
 integer-requires-2 : tie.Need-integer-requires-2
@@ -21,21 +22,25 @@ integer-requires-2 c κs = search needs
 number-or-requires : tie.Need-number-or-requires
 number-or-requires c κs = search needs
 
-result-tile-requires : tie.Need-result-tile-requires
-result-tile-requires c κs = search needs
+result-type-requires : tie.Need-result-type-requires
+result-type-requires c κs = search needs
+
+row-by-requires : tie.Need-row-by-requires
+row-by-requires c κs = search needs
 
 is-pointer-requires : tie.Need-is-pointer-requires
 is-pointer-requires c κs = search needs
 
 returns-2 : tie.Need-returns-2
-unfolding alloca failIf
+unfolding alloca failIf resultTileIn
 returns-2 c =
-    let past1 = c .before .before .before .before .before in
+    let past1 = c .before .before .before .before .before .before in
     rw (
       ← past1 .before .before .integer .ensures,
       ← past1 .before .is-absent .ensures,
       past1 .if1 .left,
-      ← c .before .before .result-tile .ensures,
+      ← c .before .before .before .result-type .ensures,
+      ← c .before .before .row-by .ensures,
       ← c .before .is-pointer .ensures,
       c .if2 .taken,
     )
@@ -47,21 +52,25 @@ is-negative-requires : tie.Need-is-negative-requires
 is-negative-requires c κs = search needs
 
 returns-3 : tie.Need-returns-3
-unfolding alloca failIf
+unfolding alloca failIf resultTileIn
 returns-3 c =
     let past2 = c .before .before .before in
-    let past1 = past2 .before .before .before .before .before in
+    let past1 = past2 .before .before .before .before .before .before in
     rw (
       ← past1 .before .before .integer .ensures,
       ← past1 .before .is-absent .ensures,
       past1 .if1 .left,
-      ← past2 .before .before .result-tile .ensures,
+      ← past2 .before .before .before .result-type .ensures,
+      ← past2 .before .before .row-by .ensures,
       ← past2 .before .is-pointer .ensures,
       past2 .if2 .left,
       ← c .before .before .number-or2 .ensures,
       ← c .before .is-negative .ensures,
       c .if3 .taken,
     )
+
+kind-of-requires : tie.Need-kind-of-requires
+kind-of-requires c κs = search needs
 
 byte-width-requires : tie.Need-byte-width-requires
 byte-width-requires c κs = search needs
@@ -70,46 +79,50 @@ is-misaligned-requires : tie.Need-is-misaligned-requires
 is-misaligned-requires c κs = search needs
 
 returns-4 : tie.Need-returns-4
-unfolding alloca failIf
+unfolding alloca failIf resultTileIn
 returns-4 c =
-    let past3 = c .before .before .before in
+    let past3 = c .before .before .before .before in
     let past2 = past3 .before .before .before in
-    let past1 = past2 .before .before .before .before .before in
+    let past1 = past2 .before .before .before .before .before .before in
     rw (
       ← past1 .before .before .integer .ensures,
       ← past1 .before .is-absent .ensures,
       past1 .if1 .left,
-      ← past2 .before .before .result-tile .ensures,
+      ← past2 .before .before .before .result-type .ensures,
+      ← past2 .before .before .row-by .ensures,
       ← past2 .before .is-pointer .ensures,
       past2 .if2 .left,
       ← past3 .before .before .number-or2 .ensures,
       ← past3 .before .is-negative .ensures,
       past3 .if3 .left,
-      ← past2 .before .before .before .before .integer2 .ensures,
-      ← past2 .before .before .before .number-or .ensures,
+      ← past2 .before .before .before .before .before .integer2 .ensures,
+      ← past2 .before .before .before .before .number-or .ensures,
+      ← c .before .before .before .kind-of .ensures,
       ← c .before .before .byte-width .ensures,
       ← c .before .is-misaligned .ensures,
       c .if4 .taken,
     )
 
 returns-5 : tie.Need-returns-5
-unfolding alloca failIf
+unfolding alloca failIf resultTileIn
 returns-5 c =
-    let past3 = c .before .before .before in
+    let past3 = c .before .before .before .before in
     let past2 = past3 .before .before .before in
-    let past1 = past2 .before .before .before .before .before in
+    let past1 = past2 .before .before .before .before .before .before in
     rw (
       ← past1 .before .before .integer .ensures,
       ← past1 .before .is-absent .ensures,
       past1 .if1 .left,
-      ← past2 .before .before .result-tile .ensures,
+      ← past2 .before .before .before .result-type .ensures,
+      ← past2 .before .before .row-by .ensures,
       ← past2 .before .is-pointer .ensures,
       past2 .if2 .left,
       ← past3 .before .before .number-or2 .ensures,
       ← past3 .before .is-negative .ensures,
       past3 .if3 .left,
-      ← past2 .before .before .before .before .integer2 .ensures,
-      ← past2 .before .before .before .number-or .ensures,
+      ← past2 .before .before .before .before .before .integer2 .ensures,
+      ← past2 .before .before .before .before .number-or .ensures,
+      ← c .before .before .before .kind-of .ensures,
       ← c .before .before .byte-width .ensures,
       ← c .before .is-misaligned .ensures,
       c .if4 .left,
@@ -124,12 +137,14 @@ alloca-spec =
     returns
     integer-requires-2
     number-or-requires
-    result-tile-requires
+    result-type-requires
+    row-by-requires
     is-pointer-requires
     returns-2
     number-or-requires-2
     is-negative-requires
     returns-3
+    kind-of-requires
     byte-width-requires
     is-misaligned-requires
     returns-4

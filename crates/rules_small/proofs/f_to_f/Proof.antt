@@ -1,97 +1,129 @@
 -- `f_to_f` meets its contract: each return by the tests that led to it.
 use borrow.Author.Tests.{eq-eqb, ne-eqb}
+use Rattle.lookups.specs.Typed.{operandTileIn, resultTileIn}
 use Rattle.lookups.specs.Verdict.{failIf}
 use Rattle.rules_small.specs.Rounding.{fToF}
 use borrow.Author.Needs.{needs}
 use Rattle.rules_small.proofs.f_to_f.Statement.{statement}
 use Rattle.rules_small.proofs.f_to_f.Tie as tie
 
-operand-tile-requires : tie.Need-operand-tile-requires
-operand-tile-requires c κs = search needs
+operand-type-requires : tie.Need-operand-type-requires
+operand-type-requires c κs = search needs
+
+row-by-requires : tie.Need-row-by-requires
+row-by-requires c κs = search needs
 
 is-number-requires : tie.Need-is-number-requires
 is-number-requires c κs = search needs
 
 returns : tie.Need-returns
-unfolding fToF failIf
-returns c = rw (← c .before .before .operand-tile .ensures, ← c .before .is-number .ensures, c .if1 .taken)
+unfolding fToF failIf operandTileIn resultTileIn
+returns c =
+    rw (
+      ← c .before .before .before .operand-type .ensures,
+      ← c .before .before .row-by .ensures,
+      ← c .before .is-number .ensures,
+      c .if1 .taken,
+    )
 
-result-tile-requires : tie.Need-result-tile-requires
-result-tile-requires c κs = search needs
+result-type-requires : tie.Need-result-type-requires
+result-type-requires c κs = search needs
+
+row-by-requires-2 : tie.Need-row-by-requires-2
+row-by-requires-2 c κs = search needs
 
 is-number-requires-2 : tie.Need-is-number-requires-2
 is-number-requires-2 c κs = search needs
 
 returns-2 : tie.Need-returns-2
-unfolding fToF failIf
+unfolding fToF failIf operandTileIn resultTileIn
 returns-2 c =
-    let past1 = c .before .before .before in
+    let past1 = c .before .before .before .before in
     rw (
-      ← past1 .before .before .operand-tile .ensures,
+      ← past1 .before .before .before .operand-type .ensures,
+      ← past1 .before .before .row-by .ensures,
       ← past1 .before .is-number .ensures,
       past1 .if1 .left,
-      ← c .before .before .result-tile .ensures,
+      ← c .before .before .before .result-type .ensures,
+      ← c .before .before .row-by2 .ensures,
       ← c .before .is-number2 .ensures,
       c .if2 .taken,
     )
+
+kind-of-requires : tie.Need-kind-of-requires
+kind-of-requires c κs = search needs
 
 is-integer-requires : tie.Need-is-integer-requires
 is-integer-requires c κs = search needs
 
 returns-3 : tie.Need-returns-3
-unfolding fToF failIf
+unfolding fToF failIf operandTileIn resultTileIn
 returns-3 c =
-    let past2 = c .before .before in
-    let past1 = past2 .before .before .before in
+    let past2 = c .before .before .before in
+    let past1 = past2 .before .before .before .before in
     rw (
-      ← past1 .before .before .operand-tile .ensures,
+      ← past1 .before .before .before .operand-type .ensures,
+      ← past1 .before .before .row-by .ensures,
       ← past1 .before .is-number .ensures,
       past1 .if1 .left,
-      ← past2 .before .before .result-tile .ensures,
+      ← past2 .before .before .before .result-type .ensures,
+      ← past2 .before .before .row-by2 .ensures,
       ← past2 .before .is-number2 .ensures,
       past2 .if2 .left,
+      ← c .before .before .kind-of .ensures,
       ← c .before .is-integer .ensures,
       c .if3 .taken,
     )
+
+kind-of-requires-2 : tie.Need-kind-of-requires-2
+kind-of-requires-2 c κs = search needs
 
 is-integer-requires-2 : tie.Need-is-integer-requires-2
 is-integer-requires-2 c κs = search needs
 
 returns-4 : tie.Need-returns-4
-unfolding fToF failIf
+unfolding fToF failIf operandTileIn resultTileIn
 returns-4 c =
-    let past3 = c .before .before in
-    let past2 = past3 .before .before in
-    let past1 = past2 .before .before .before in
+    let past3 = c .before .before .before in
+    let past2 = past3 .before .before .before in
+    let past1 = past2 .before .before .before .before in
     rw (
-      ← past1 .before .before .operand-tile .ensures,
+      ← past1 .before .before .before .operand-type .ensures,
+      ← past1 .before .before .row-by .ensures,
       ← past1 .before .is-number .ensures,
       past1 .if1 .left,
-      ← past2 .before .before .result-tile .ensures,
+      ← past2 .before .before .before .result-type .ensures,
+      ← past2 .before .before .row-by2 .ensures,
       ← past2 .before .is-number2 .ensures,
       past2 .if2 .left,
+      ← past3 .before .before .kind-of .ensures,
       ← past3 .before .is-integer .ensures,
       past3 .if3 .left,
+      ← c .before .before .kind-of2 .ensures,
       ← c .before .is-integer2 .ensures,
       c .if4 .taken,
     )
 
 returns-5 : tie.Need-returns-5
-unfolding fToF failIf
+unfolding fToF failIf operandTileIn resultTileIn
 returns-5 c =
-    let past4 = c .before .before .before in
-    let past3 = past4 .before .before in
-    let past2 = past3 .before .before in
-    let past1 = past2 .before .before .before in
+    let past4 = c .before in
+    let past3 = past4 .before .before .before in
+    let past2 = past3 .before .before .before in
+    let past1 = past2 .before .before .before .before in
     rw (
-      ← past1 .before .before .operand-tile .ensures,
+      ← past1 .before .before .before .operand-type .ensures,
+      ← past1 .before .before .row-by .ensures,
       ← past1 .before .is-number .ensures,
       past1 .if1 .left,
-      ← past2 .before .before .result-tile .ensures,
+      ← past2 .before .before .before .result-type .ensures,
+      ← past2 .before .before .row-by2 .ensures,
       ← past2 .before .is-number2 .ensures,
       past2 .if2 .left,
+      ← past3 .before .before .kind-of .ensures,
       ← past3 .before .is-integer .ensures,
       past3 .if3 .left,
+      ← past4 .before .before .kind-of2 .ensures,
       ← past4 .before .is-integer2 .ensures,
       past4 .if4 .left,
       eq-eqb _ _ (c .if5 .taken),
@@ -104,22 +136,26 @@ is-rounded-requires : tie.Need-is-rounded-requires
 is-rounded-requires c κs = search needs
 
 returns-6 : tie.Need-returns-6
-unfolding fToF failIf
+unfolding fToF failIf operandTileIn resultTileIn
 returns-6 c =
     let past5 = c .before .before .before in
-    let past4 = past5 .before .before .before in
-    let past3 = past4 .before .before in
-    let past2 = past3 .before .before in
-    let past1 = past2 .before .before .before in
+    let past4 = past5 .before in
+    let past3 = past4 .before .before .before in
+    let past2 = past3 .before .before .before in
+    let past1 = past2 .before .before .before .before in
     rw (
-      ← past1 .before .before .operand-tile .ensures,
+      ← past1 .before .before .before .operand-type .ensures,
+      ← past1 .before .before .row-by .ensures,
       ← past1 .before .is-number .ensures,
       past1 .if1 .left,
-      ← past2 .before .before .result-tile .ensures,
+      ← past2 .before .before .before .result-type .ensures,
+      ← past2 .before .before .row-by2 .ensures,
       ← past2 .before .is-number2 .ensures,
       past2 .if2 .left,
+      ← past3 .before .before .kind-of .ensures,
       ← past3 .before .is-integer .ensures,
       past3 .if3 .left,
+      ← past4 .before .before .kind-of2 .ensures,
       ← past4 .before .is-integer2 .ensures,
       past4 .if4 .left,
       ne-eqb _ _ (past5 .if5 .left),
@@ -129,22 +165,26 @@ returns-6 c =
     )
 
 returns-7 : tie.Need-returns-7
-unfolding fToF failIf
+unfolding fToF failIf operandTileIn resultTileIn
 returns-7 c =
     let past5 = c .before .before .before in
-    let past4 = past5 .before .before .before in
-    let past3 = past4 .before .before in
-    let past2 = past3 .before .before in
-    let past1 = past2 .before .before .before in
+    let past4 = past5 .before in
+    let past3 = past4 .before .before .before in
+    let past2 = past3 .before .before .before in
+    let past1 = past2 .before .before .before .before in
     rw (
-      ← past1 .before .before .operand-tile .ensures,
+      ← past1 .before .before .before .operand-type .ensures,
+      ← past1 .before .before .row-by .ensures,
       ← past1 .before .is-number .ensures,
       past1 .if1 .left,
-      ← past2 .before .before .result-tile .ensures,
+      ← past2 .before .before .before .result-type .ensures,
+      ← past2 .before .before .row-by2 .ensures,
       ← past2 .before .is-number2 .ensures,
       past2 .if2 .left,
+      ← past3 .before .before .kind-of .ensures,
       ← past3 .before .is-integer .ensures,
       past3 .if3 .left,
+      ← past4 .before .before .kind-of2 .ensures,
       ← past4 .before .is-integer2 .ensures,
       past4 .if4 .left,
       ne-eqb _ _ (past5 .if5 .left),
@@ -157,14 +197,18 @@ pub f-to-f-spec : {M : Type 1} → statement M
 f-to-f-spec =
     tie.close
     (tie.spec
-    operand-tile-requires
+    operand-type-requires
+    row-by-requires
     is-number-requires
     returns
-    result-tile-requires
+    result-type-requires
+    row-by-requires-2
     is-number-requires-2
     returns-2
+    kind-of-requires
     is-integer-requires
     returns-3
+    kind-of-requires-2
     is-integer-requires-2
     returns-4
     returns-5

@@ -13,34 +13,30 @@ returns : tie.Need-returns
 unfolding flushed failIf
 returns c = rw (← c .before .flushes .ensures, not-true (c .before .flushes .result) (c .if1 .taken))
 
-operand-tile-requires : tie.Need-operand-tile-requires
-operand-tile-requires c κs = search needs
-
-has-kind-requires : tie.Need-has-kind-requires
-has-kind-requires c κs = search needs
+operand-has-kind-requires : tie.Need-operand-has-kind-requires
+operand-has-kind-requires c κs = search needs
 
 returns-2 : tie.Need-returns-2
 unfolding flushed failIf
 returns-2 c =
+    let past = c .before .before in
     rw (
-      ← c .before .before .before .before .flushes .ensures,
-      not-false (c .before .before .before .before .flushes .result) (c .before .before .before .if1 .left),
-      ← c .before .before .operand-tile .ensures,
-      ← c .before .has-kind .ensures,
+      ← past .before .flushes .ensures,
+      not-false (past .before .flushes .result) (past .if1 .left),
+      ← c .before .operand-has-kind .ensures,
       c .if2 .taken,
     )
 
 returns-3 : tie.Need-returns-3
 unfolding flushed failIf
 returns-3 c =
+    let past = c .before .before in
     rw (
-      ← c .before .before .before .before .flushes .ensures,
-      not-false (c .before .before .before .before .flushes .result) (c .before .before .before .if1 .left),
-      ← c .before .before .operand-tile .ensures,
-      ← c .before .has-kind .ensures,
+      ← past .before .flushes .ensures,
+      not-false (past .before .flushes .result) (past .if1 .left),
+      ← c .before .operand-has-kind .ensures,
       c .if2 .left,
     )
 
 pub flushed-spec : {M : Type 1} → statement M
-flushed-spec =
-    tie.close (tie.spec flushes-requires returns operand-tile-requires has-kind-requires returns-2 returns-3)
+flushed-spec = tie.close (tie.spec flushes-requires returns operand-has-kind-requires returns-2 returns-3)

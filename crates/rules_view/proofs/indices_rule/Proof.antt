@@ -5,7 +5,7 @@ use mathlib.Core.Path.{_≡_, sym, _∙_}
 use borrow.Author.Needs.{needs}
 use borrow.Author.Tests.{not-true, not-false}
 use Rattle.cells.specs.Lists.{from}
-use Rattle.tiles.specs.Tile.{rankOf}
+use Rattle.tiles.specs.Tile.{tileRow, rankOf}
 use Rattle.tiles.proofs.Dims.{rank-is}
 use Rattle.lookups.specs.Typed.{operandTileIn}
 use Rattle.rules_view.specs.View.{indexStart, elementAfter, orElse, indicesFrom, isSparseAxis, indicesRule}
@@ -43,11 +43,22 @@ loop-holds c =
 counts : (c : tie.Start Inv-loop μ-loop) → rankOf (c .args .view) ≡ min (c .args .view .rank) 8
 counts c = rank-is (c .args .view) (search needs)
 
-add-operand-tile : tie.Need-add-operand-tile Inv-loop μ-loop
-add-operand-tile c = omega (arith, c .before .loop .inv .0, c .before .loop .inv .1, start-small (c .before .before .before .before .before .before .before .before .before .args .opcode), counts (c .before .before .before .before .before .before .before .before .before))
+add-operand-type : tie.Need-add-operand-type Inv-loop μ-loop
+add-operand-type c = omega (arith, c .before .loop .inv .0, c .before .loop .inv .1, start-small (c .before .before .before .before .before .before .before .before .before .args .opcode), counts (c .before .before .before .before .before .before .before .before .before))
 
-operand-tile-requires : tie.Need-operand-tile-requires Inv-loop μ-loop
-operand-tile-requires c κs = search needs
+operand-type-requires : tie.Need-operand-type-requires Inv-loop μ-loop
+operand-type-requires c κs = search needs
+
+row-by-requires : tie.Need-row-by-requires Inv-loop μ-loop
+row-by-requires c κs = search needs
+
+-- the cells at hand are the tile of the axis's operand
+seen : (c : tie.After-row-by Inv-loop μ-loop) →
+    let at = c .before .before .before in
+    let s = at .before .before .before .before .before .before .before .before .args in
+    tileRow (c .row-by .result .now) ≡ operandTileIn (s .t .now) (s .v .now) (s .o .now) (s .l .now) (s .sheet .now) (s .n) (s .operation) (at .before .before .index-start .result + at .loop .axis)
+unfolding operandTileIn
+seen c = c .row-by .ensures ∙ rw (c .before .operand-type .ensures)
 
 is-sparse-axis-requires : tie.Need-is-sparse-axis-requires Inv-loop μ-loop
 is-sparse-axis-requires c κs = search needs
@@ -60,17 +71,17 @@ holds-requires c κs = search needs
 
 -- the rule where the axis at hand is asked: what it answers, and the axes behind it
 turned : (c : tie.After-index-rule Inv-loop μ-loop) →
-    let at = c .before .before .before .before in
+    let at = c .before .before .before .before .before in
     let s = at .before .before .before .before .before .before .before .before .args in
     indicesRule (s .t .now) (s .v .now) (s .o .now) (s .l .now) (s .sheet .now) (s .n) (s .operation) (s .opcode) (s .id) (s .view)
     ≡ orElse (c .index-rule .result)
-    (indicesFrom (λ k. operandTileIn (s .t .now) (s .v .now) (s .o .now) (s .l .now) (s .sheet .now) (s .n) (s .operation) (at .before .before .index-start .result + k)) (s .view) (isSparseAxis (s .t .now) (s .n) (s .id)) (from (at .loop .axis + 1) (at .before .rank .result - (at .loop .axis + 1))) (elementAfter (c .before .before .operand-tile .result) (c .before .is-sparse-axis .result) (at .loop .element)))
+    (indicesFrom (λ k. operandTileIn (s .t .now) (s .v .now) (s .o .now) (s .l .now) (s .sheet .now) (s .n) (s .operation) (at .before .before .index-start .result + k)) (s .view) (isSparseAxis (s .t .now) (s .n) (s .id)) (from (at .loop .axis + 1) (at .before .rank .result - (at .loop .axis + 1))) (elementAfter (tileRow (c .before .before .row-by .result .now)) (c .before .is-sparse-axis .result) (at .loop .element)))
 turned c =
-    let at = c .before .before .before .before in
+    let at = c .before .before .before .before .before in
     let s = at .before .before .before .before .before .before .before .before .args in
     at .loop .inv .3
-    ∙ turn (λ k. operandTileIn (s .t .now) (s .v .now) (s .o .now) (s .l .now) (s .sheet .now) (s .n) (s .operation) (at .before .before .index-start .result + k)) (s .view) (isSparseAxis (s .t .now) (s .n) (s .id)) (at .loop .axis) (at .before .rank .result) (at .loop .element) (c .before .before .before .loop-test .taken)
-    ∙ rw (← c .before .before .operand-tile .ensures, ← c .before .is-sparse-axis .ensures, ← c .index-rule .ensures)
+    ∙ turn (λ k. operandTileIn (s .t .now) (s .v .now) (s .o .now) (s .l .now) (s .sheet .now) (s .n) (s .operation) (at .before .before .index-start .result + k)) (s .view) (isSparseAxis (s .t .now) (s .n) (s .id)) (at .loop .axis) (at .before .rank .result) (at .loop .element) (c .before .before .before .before .loop-test .taken)
+    ∙ rw (← seen (c .before .before), ← c .before .is-sparse-axis .ensures, ← c .index-rule .ensures)
 
 returns : tie.Need-returns Inv-loop μ-loop
 returns c =
@@ -81,18 +92,18 @@ element-after-requires : tie.Need-element-after-requires Inv-loop μ-loop
 element-after-requires c κs = search needs
 
 add-axis : tie.Need-add-axis Inv-loop μ-loop
-add-axis c = omega (arith, c .before .before .before .before .before .before .before .loop .inv .1, counts (c .before .before .before .before .before .before .before .before .before .before .before .before .before .before .before))
+add-axis c = omega (arith, c .before .before .before .before .before .before .before .before .loop .inv .1, counts (c .before .before .before .before .before .before .before .before .before .before .before .before .before .before .before .before))
 
 loop-less : tie.Need-loop-less Inv-loop μ-loop
-loop-less c = omega (arith, c .before .before .before .before .before .before .loop-test .taken)
+loop-less c = omega (arith, c .before .before .before .before .before .before .before .loop-test .taken)
 
 loop-again : tie.Need-loop-again Inv-loop μ-loop
 loop-again c =
     let asked = c .before .before .before in
-    let l = c .before .before .before .before .before .before .before .loop in (
+    let l = c .before .before .before .before .before .before .before .before .loop in (
       l .inv .0,
       l .inv .1,
-      omega (arith, c .before .before .before .before .before .before .loop-test .taken),
+      omega (arith, c .before .before .before .before .before .before .before .loop-test .taken),
       turned asked ∙ goes (asked .index-rule .result) _ (sym (c .before .before .holds .ensures) ∙ not-false _ (c .before .if1 .left)) ∙ rw (c .element-after .ensures),
     )
 
@@ -111,8 +122,9 @@ indices-rule-spec =
     index-start-requires
     rank-requires
     loop-holds
-    add-operand-tile
-    operand-tile-requires
+    add-operand-type
+    operand-type-requires
+    row-by-requires
     is-sparse-axis-requires
     index-rule-requires
     holds-requires
