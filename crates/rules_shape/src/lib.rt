@@ -34,13 +34,17 @@ fn is_packing(code: u64) -> bool
     (code == PACK) | (code == UNPACK)
 }
 
-// The test of a pack's bits is reached, and one of its products is no i64.
+// The test of a pack's bits is reached, and one of its products is no i64. Products are taken where they are asked alone.
 fn pack_leaves(sheet: &[u64], code: u64, src: Tile, dst: Tile) -> bool
     ensures { λ r. ⌜ r ≡ packLeaves (now (sheet .entry)) code src dst ⌝ }
 {
-    let past = tiles::has_left(tiles::bit_count(sheet, src))
-        | tiles::has_left(tiles::bit_count(sheet, dst));
-    is_packing(code) & tiles::is_packable(sheet, src, dst) & past
+    if !is_packing(code) {
+        return false;
+    }
+    if !tiles::is_packable(sheet, src, dst) {
+        return false;
+    }
+    tiles::has_left(tiles::bit_count(sheet, src)) | tiles::has_left(tiles::bit_count(sheet, dst))
 }
 
 // What the operation asks of its source and its result.
