@@ -9,9 +9,7 @@ use Rattle.rules_small.specs.Memory.{makeView, alloca}
 use Rattle.rules_small.specs.Power.{fPowI}
 use Rattle.rules_small.specs.Rounding.{fToI, fToF, addF, exp, flushed}
 use Rattle.rules_small.specs.Token.{tokens}
-use Rattle.rules.specs.Operation.{armOf, armRule, judged, verifyOperation}
-use Rattle.rules.specs.declared.Arm.{Arm}
-use Rattle.rules.specs.declared.Arm.the-variants.{Shape, Atomic, Assumed, MakeView, Allocation, Power, Mma, Part, ToInteger, ToFloat, Sum, Exponential, Token, View, Free}
+use Rattle.rules.specs.Operation.{armOf, armRule, judged, verifyOperation, Arm, Shape, Atomic, Assumed, MakeView, Allocation, Power, Mma, Part, ToInteger, ToFloat, Sum, Exponential, Token, View, Free}
 
 -- the tables that a rule reads
 abbrev pub bare : Tables → Tables

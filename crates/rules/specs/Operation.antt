@@ -23,8 +23,10 @@ use Rattle.rules_small.specs.Rounding.{fToI as fToIArm, fToF as fToFArm, addF a
 use Rattle.rules_small.specs.Token.{tokens as tokensArm}
 use Rattle.rules_view.specs.View.{viewArm}
 use Rattle.rules.specs.Opcode.{bitcast, reshape, broadcast, permute, pack, unpack, atomicRmw, atomicCas, assume, makeTensorView, makePartitionView, makeGatherScatterView, makeStridedView, alloca, fPowI, mmaF, mmaI, mmaFScaled, insert, extract, fToI, fToF, addF, subF, mulF, fma, exp, tanH, gdcLaunchDependentsTko, gdcWaitTko, memoryFenceAliasTko, loadView, storeView, atomicRedView}
-use Rattle.rules.specs.declared.Arm.{Arm}
-use Rattle.rules.specs.declared.Arm.the-variants.{Shape, Atomic, Assumed, MakeView, Allocation, Power, Mma, Part, ToInteger, ToFloat, Sum, Exponential, Token, View, Free}
+
+-- the arms of the match on the opcode, in its order; the last is that of an opcode with no rule of its own
+pub data Arm : Type 0 where
+  Shape Atomic Assumed MakeView Allocation Power Mma Part ToInteger ToFloat Sum Exponential Token View Free : Arm
 
 -- which opcodes share an arm, in the Rust's order; an opcode with no rule of its own is free
 unfoldable pub armOf : ℕ → Arm

@@ -1,6 +1,7 @@
 // Codes 11 and 12: the operation rules, arm by arm, over operations given in walk order.
 ghost use mathlib.Core.Path.{_≡_};
 ghost use mathlib.Core.List.{[]};
+ghost use Rattle.tables.specs.Layout.{opcodeIn};
 ghost use Rattle.tables.specs.Tables.{lent};
 ghost use Rattle.rules.specs.Operation.{armOf, armRule, judged, verifyOperation, rules};
 use lookups::Verdict;
@@ -20,55 +21,7 @@ mod opcodes;
 
 use opcodes::*;
 
-// The arms of the match on the opcode, in its order; the last is that of an opcode with no rule of its own.
-pub enum Arm {
-    Shape,
-    Atomic,
-    Assumed,
-    MakeView,
-    Allocation,
-    Power,
-    Mma,
-    Part,
-    ToInteger,
-    ToFloat,
-    Sum,
-    Exponential,
-    Token,
-    View,
-    Free,
-}
-
-// Which opcodes share an arm. Neighbours stand on lines of their own.
-fn arm_of(opcode: u64) -> Arm
-    ensures { λ r. ⌜ r ≡ armOf opcode ⌝ }
-{
-    match opcode {
-        BITCAST | RESHAPE | BROADCAST | PERMUTE | PACK => Arm::Shape,
-        UNPACK => Arm::Shape,
-        ATOMIC_RMW => Arm::Atomic,
-        ATOMIC_CAS => Arm::Atomic,
-        ASSUME => Arm::Assumed,
-        MAKE_TENSOR_VIEW => Arm::MakeView,
-        MAKE_PARTITION_VIEW | MAKE_GATHER_SCATTER_VIEW => Arm::MakeView,
-        MAKE_STRIDED_VIEW => Arm::MakeView,
-        ALLOCA => Arm::Allocation,
-        F_POW_I => Arm::Power,
-        MMA_F => Arm::Mma,
-        MMA_I | MMA_F_SCALED => Arm::Mma,
-        INSERT | EXTRACT => Arm::Part,
-        F_TO_I => Arm::ToInteger,
-        F_TO_F => Arm::ToFloat,
-        ADD_F | SUB_F | MUL_F | FMA => Arm::Sum,
-        EXP | TAN_H => Arm::Exponential,
-        GDC_LAUNCH_DEPENDENTS_TKO => Arm::Token,
-        GDC_WAIT_TKO | MEMORY_FENCE_ALIAS_TKO => Arm::Token,
-        LOAD_VIEW_TKO | STORE_VIEW_TKO | ATOMIC_RED_VIEW_TKO => Arm::View,
-        _ => Arm::Free,
-    }
-}
-
-// What an arm asks of an operation.
+// What the arm of its opcode asks of an operation, in one step: two would be two jumps. Neighbours stand on lines of their own.
 fn arm_rule(
     version: u64,
     t: &[u64],
@@ -79,26 +32,49 @@ fn arm_rule(
     sheet: &[u64],
     n: Counts,
     i: u64,
-    arm: Arm,
 ) -> Verdict
-    ensures { λ r. ⌜ r ≡ armRule version (now (sheet .entry)) (lent (now (t .entry)) (now (v .entry)) (now (o .entry)) (now (a .entry)) [] [] [] (now (l .entry)) n) i arm ⌝ }
+    ensures { λ r. ⌜ r ≡ armRule version (now (sheet .entry)) (lent (now (t .entry)) (now (v .entry)) (now (o .entry)) (now (a .entry)) [] [] [] (now (l .entry)) n) i (armOf (opcodeIn (now (o .entry)) n i)) ⌝ }
 {
-    match arm {
-        Arm::Shape => rules_shape::shape_arm(t, v, o, a, l, sheet, n, i),
-        Arm::Atomic => rules_atomic::atomic_arm(t, v, o, a, l, sheet, n, i),
-        Arm::Assumed => rules_assume::assume(t, v, o, a, l, sheet, n, i),
-        Arm::MakeView => rules_small::make_view(t, v, o, l, n, i),
-        Arm::Allocation => rules_small::alloca(t, o, a, l, sheet, n, i),
-        Arm::Power => rules_small::f_pow_i(t, v, o, l, sheet, n, i),
-        Arm::Mma => rules_matrix::mma(t, v, o, l, sheet, n, i),
-        Arm::Part => rules_matrix::insert_extract(t, v, o, l, sheet, n, i),
-        Arm::ToInteger => rules_small::f_to_i(o, a, l, n, i),
-        Arm::ToFloat => rules_small::f_to_f(version, t, v, o, a, l, sheet, n, i),
-        Arm::Sum => rules_small::add_f(o, a, l, n, i),
-        Arm::Exponential => rules_small::exp(t, v, o, a, l, sheet, n, i),
-        Arm::Token => rules_small::tokens(t, v, o, l, n, i),
-        Arm::View => rules_view::view_access(t, v, o, a, l, sheet, n, i),
-        Arm::Free => Verdict::Holds,
+    match tables::opcode(o, n, i) {
+        BITCAST | RESHAPE | BROADCAST | PERMUTE | PACK => rules_shape::shape_arm(
+            t,
+            v,
+            o,
+            a,
+            l,
+            sheet,
+            n,
+            i,
+        ),
+        UNPACK => rules_shape::shape_arm(t, v, o, a, l, sheet, n, i),
+        ATOMIC_RMW => rules_atomic::atomic_arm(t, v, o, a, l, sheet, n, i),
+        ATOMIC_CAS => rules_atomic::atomic_arm(t, v, o, a, l, sheet, n, i),
+        ASSUME => rules_assume::assume(t, v, o, a, l, sheet, n, i),
+        MAKE_TENSOR_VIEW => rules_small::make_view(t, v, o, l, n, i),
+        MAKE_PARTITION_VIEW | MAKE_GATHER_SCATTER_VIEW => rules_small::make_view(t, v, o, l, n, i),
+        MAKE_STRIDED_VIEW => rules_small::make_view(t, v, o, l, n, i),
+        ALLOCA => rules_small::alloca(t, o, a, l, sheet, n, i),
+        F_POW_I => rules_small::f_pow_i(t, v, o, l, sheet, n, i),
+        MMA_F => rules_matrix::mma(t, v, o, l, sheet, n, i),
+        MMA_I | MMA_F_SCALED => rules_matrix::mma(t, v, o, l, sheet, n, i),
+        INSERT | EXTRACT => rules_matrix::insert_extract(t, v, o, l, sheet, n, i),
+        F_TO_I => rules_small::f_to_i(o, a, l, n, i),
+        F_TO_F => rules_small::f_to_f(version, t, v, o, a, l, sheet, n, i),
+        ADD_F | SUB_F | MUL_F | FMA => rules_small::add_f(o, a, l, n, i),
+        EXP | TAN_H => rules_small::exp(t, v, o, a, l, sheet, n, i),
+        GDC_LAUNCH_DEPENDENTS_TKO => rules_small::tokens(t, v, o, l, n, i),
+        GDC_WAIT_TKO | MEMORY_FENCE_ALIAS_TKO => rules_small::tokens(t, v, o, l, n, i),
+        LOAD_VIEW_TKO | STORE_VIEW_TKO | ATOMIC_RED_VIEW_TKO => rules_view::view_access(
+            t,
+            v,
+            o,
+            a,
+            l,
+            sheet,
+            n,
+            i,
+        ),
+        _ => Verdict::Holds,
     }
 }
 
@@ -127,8 +103,7 @@ pub fn verify_operation(
 ) -> Answer
     ensures { λ r. ⌜ r ≡ verifyOperation version (now (sheet .entry)) (lent (now (t .entry)) (now (v .entry)) (now (o .entry)) (now (a .entry)) [] [] [] (now (l .entry)) n) operation ⌝ }
 {
-    let arm = arm_of(tables::opcode(o, n, operation));
-    let rule = arm_rule(version, t, v, o, a, l, sheet, n, operation, arm);
+    let rule = arm_rule(version, t, v, o, a, l, sheet, n, operation);
     if let Answer::Refused(why) = judged(operation, rule) {
         return Answer::Refused(why);
     }

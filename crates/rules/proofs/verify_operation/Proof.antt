@@ -8,12 +8,6 @@ use borrow.Author.Needs.{needs}
 use Rattle.rules.proofs.verify_operation.Statement.{statement}
 use Rattle.rules.proofs.verify_operation.Tie as tie
 
-opcode-requires : tie.Need-opcode-requires
-opcode-requires c κs = search needs
-
-arm-of-requires : tie.Need-arm-of-requires
-arm-of-requires c κs = search needs
-
 arm-rule-requires : tie.Need-arm-rule-requires
 arm-rule-requires c κs = search needs
 
@@ -25,16 +19,12 @@ enum-known-why c = search needs
 
 -- what the arm was answered
 by-arm : (c : tie.After-judged)
-    → let e = c .before .before .before .before .before .before .before .before .before .before .args in
+    → let e = c .before .before .before .before .before .before .before .before .args in
     let x = lent (e .t .now) (e .v .now) (e .o .now) (e .a .now) [] [] [] (e .l .now) (e .n) in
     c .judged .result ≡ judged (e .operation) (armRule (e .version) (e .sheet .now) x (e .operation) (armOf (opcode x (e .operation))))
 by-arm c =
-    let e = c .before .before .before .before .before .before .before .before .before .before .args in
-    let x = lent (e .t .now) (e .v .now) (e .o .now) (e .a .now) [] [] [] (e .l .now) (e .n) in
-    let code = ap armOf (c .before .before .before .opcode .ensures) in
-    let arm = c .before .before .arm-of .ensures ∙ code in
-    c .judged .ensures
-    ∙ ap (judged (e .operation)) (c .before .arm-rule .ensures ∙ ap (armRule (e .version) (e .sheet .now) x (e .operation)) arm)
+    let e = c .before .before .before .before .before .before .before .before .args in
+    c .judged .ensures ∙ ap (judged (e .operation)) (c .before .arm-rule .ensures)
 
 returns : tie.Need-returns
 unfolding verifyOperation
@@ -52,7 +42,7 @@ judged-requires-2 c κs = search needs
 returns-2 : tie.Need-returns-2
 unfolding verifyOperation
 returns-2 c =
-    let e = c .before .before .before .before .before .before .before .before .before .before .before .before .before .before .args in
+    let e = c .before .before .before .before .before .before .before .before .before .before .before .before .args in
     c .judged2 .ensures
     ∙ ap (judged (e .operation)) (c .before .flushed .ensures)
     ∙ goes-on _ _ _ (by-arm (c .before .before .before .before)) (c .before .before .enum-told .given .1)
@@ -61,8 +51,6 @@ pub verify-operation-spec : {M : Type 1} → statement M
 verify-operation-spec =
     tie.close
     (tie.spec
-    opcode-requires
-    arm-of-requires
     arm-rule-requires
     judged-requires
     enum-known-why
