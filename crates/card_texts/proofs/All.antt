@@ -35,7 +35,7 @@ use Rattle.nesting.specs.Numbering.{numbersAt, numbering}
 use Rattle.numbering.specs.Alone.{size}
 use Rattle.capabilities.specs.Ask.{ask, kindAsked, attributeAsked, operationAsks, capabilities}
 use Rattle.tiles.specs.Kind.{isInteger, bitsIn}
-use Rattle.tiles.specs.Tile.{tileIn, cellsOf, rowIn, eightOf, dimsOf, rankOf, isTile, isNumber, scalarOf, hasKind, isIntegers, isIntegersOrPointers}
+use Rattle.tiles.specs.Tile.{tileIn, cellsOf, rowTile, seenIn, eightOf, dimsOf, rankOf, isTile, isNumber, scalarOf, hasKind, isIntegers, isIntegersOrPointers}
 use Rattle.lookups.specs.Lookup.{isTaken, firstIn, isEntry, entryIn, flushesIn}
 use Rattle.lookups.specs.Typed.{operandTypeIn, operandTileIn}
 use Rattle.lookups.specs.Verdict.{failIf}
@@ -59,7 +59,7 @@ unfolding full said cards integerOf fitsWidth isPowerOfTwo powerBelow names numb
     sheetRange lowestTwice listedTwice operationDepth blockDepth regionDepth tooDeep operationOrder blockOrder regionOrder orderTo
     definedTwice valuesTwice isVersion targetCheck sheetChecks operationVisits blockVisits regionVisits wholeVisits entryVisits
     entriesVisits resultValues valued nestingOf placed valueAt dominance numbersAt numbering size ask kindAsked attributeAsked
-    operationAsks capabilities isInteger bitsIn tileIn cellsOf rowIn eightOf dimsOf rankOf isTile isNumber scalarOf hasKind isIntegers
+    operationAsks capabilities isInteger bitsIn tileIn cellsOf rowTile seenIn eightOf dimsOf rankOf isTile isNumber scalarOf hasKind isIntegers
     isIntegersOrPointers isTaken firstIn isEntry entryIn flushesIn operandTypeIn operandTileIn failIf hasBit numberIn isDivisorWrong
     groupRule divByRule isOutsideWidth isReversed isBoundWrong boundedRule attributeRule assumeIn flushed armOf armRule
     verifyOperation rules parts refusals fullCheck inSheet checked textsCheck

@@ -2,13 +2,13 @@
 -- Each stands over the tables that it reads, and then over all of them.
 use Prim.Native.Nat.{ℕ}
 use mathlib.Core.Bool.{cond}
-use mathlib.Core.List.{List}
+use mathlib.Core.List.{List, []}
 use lib.Dec.{ltb}
 use lib.ListN.{length, getD}
 use Rattle.tables.specs.Layout.{operandsIn, resultTypesIn, valueTypeIn}
 use Rattle.tables.specs.Tables.{Tables}
 use Rattle.tables.specs.declared.Counts.{Counts}
-use Rattle.tiles.specs.Tile.{noTile, tileIn}
+use Rattle.tiles.specs.Tile.{noTile, seenIn, tileIn}
 use Rattle.tiles.specs.declared.Tile.{Tile}
 use Rattle.lookups.specs.declared.Typed.{Typed}
 use Rattle.lookups.specs.declared.Typed.the-variants.{By, Untyped}
@@ -27,6 +27,11 @@ resultTypeIn o l n i = let ts = resultTypesIn o l n i in cond (ltb 0 (length ts)
 
 abbrev pub resultType : Tables → ℕ → Typed
 resultType x i = resultTypeIn (x .o) (x .l) (x .counts) i
+
+-- the cells of a type that is a tile, where there is a type
+abbrev pub rowBy : List ℕ → List ℕ → Counts → Typed → List ℕ
+rowBy t sheet n (By id) = seenIn t sheet n id
+rowBy t sheet n Untyped = []
 
 -- the tile that a type is, where there is a type
 abbrev pub tileBy : List ℕ → List ℕ → Counts → Typed → Tile

@@ -1,8 +1,8 @@
 // What a rule reads of an operation: its attributes by name and form, and the types and tiles of its operands and its result.
 ghost use mathlib.Core.Path.{_≡_};
-ghost use Rattle.tiles.specs.Tile.{tileRow, hasKind};
+ghost use Rattle.tiles.specs.Tile.{hasKind};
 ghost use Rattle.lookups.specs.Lookup.{isTaken, firstIn, isEntry, entryIn, integerIn, numberOr, permutationIn, segmentsIn, segmentIn, flushesIn};
-ghost use Rattle.lookups.specs.Typed.{operandTypeIn, resultTypeIn, tileBy, operandTileIn, resultTileIn};
+ghost use Rattle.lookups.specs.Typed.{operandTypeIn, resultTypeIn, rowBy, operandTileIn, resultTileIn};
 use cells::Span;
 use tables::Counts;
 use tiles::Tile;
@@ -224,7 +224,7 @@ pub fn result_type(o: &[u32], l: &[u64], n: Counts, operation: u64) -> Typed
 
 // The cells of a type that is a tile; none where there is no type.
 pub fn row_by<'a>(t: &'a [u64], sheet: &[u64], n: Counts, typed: Typed) -> &'a [u64]
-    ensures { λ r. ⌜ tileRow (now r) ≡ tileBy (now (t .entry)) (now (sheet .entry)) n typed ⌝ }
+    ensures { λ r. ⌜ now r ≡ rowBy (now (t .entry)) (now (sheet .entry)) n typed ⌝ }
 {
     match typed {
         Typed::By(id) => tiles::seen_row(t, sheet, n, id),
@@ -262,7 +262,7 @@ pub fn result_tile(
     tiles::tile_of(row_by(t, sheet, n, result_type(o, l, n, operation)))
 }
 
-// Operand k is a tile of numbers of this kind: no tile has to be built for it.
+// Operand k is a tile of numbers of this kind.
 pub fn operand_has_kind(
     t: &[u64],
     v: &[u64],
@@ -277,5 +277,5 @@ pub fn operand_has_kind(
     ensures { λ r. ⌜ r ≡ hasKind (operandTileIn (now (t .entry)) (now (v .entry)) (now (o .entry)) (now (l .entry)) (now (sheet .entry)) n operation k) kind ⌝ }
 {
     let row = row_by(t, sheet, n, operand_type(v, o, l, n, operation, k));
-    (cells::at_u64(row, 0) == 1) & (cells::at_u64(row, 1) == kind)
+    tiles::has_kind(tiles::tile_of(row), kind)
 }

@@ -17,7 +17,7 @@ use Rattle.tables.specs.declared.Answer.the-variants.{Accepted, Refused}
 use Rattle.tables.specs.declared.Refusal.the-variants.{RuleBroken, ProductLeaves}
 use Rattle.tables.specs.declared.Counts.{Counts}
 use Rattle.tiles.specs.Kind.{I1, I4, I8, I64, F32, isInteger, bitsIn}
-use Rattle.tiles.specs.Tile.{tileIn, cellsOf, rowIn, eightOf, dimsOf, rankOf, isTile, isNumber, scalarOf, hasKind, isIntegers, isIntegersOrPointers, sameElement}
+use Rattle.tiles.specs.Tile.{tileIn, cellsOf, rowTile, seenIn, eightOf, dimsOf, rankOf, isTile, isNumber, scalarOf, hasKind, isIntegers, isIntegersOrPointers, sameElement}
 use Rattle.tiles.specs.Shape.{countOf, eqZ}
 use Rattle.tiles.specs.Rules.{isReshape, isPackable, bitCountOf, isPacked}
 use Rattle.lookups.specs.Lookup.{isTaken, firstIn, isEntry, entryIn, integerIn, flushesIn}
@@ -97,7 +97,7 @@ pub cards :
     ∷ Accepted ∷ Refused (ProductLeaves 0)
     ∷ Accepted ∷ Accepted ∷ broken 99 ∷ broken 1
     ∷ [])
-unfolding verifyOperation armOf armRule addF flushed shapeIn shapedIn validIn packLeaves isPacking assumeIn attributeRule numberIn hasBit divByRule isDivisorWrong groupRule boundedRule isBoundWrong isOutsideWidth isReversed failIf leaveIf operandTileIn operandTypeIn resultTileIn resultTypeIn integerIn flushesIn entryIn isEntry isTaken firstIn opcodeIn operandsIn operandsSpanIn resultTypesIn resultTypesSpanIn attributesIn attributesSpanIn valueTypeIn formIn kindIn pointerIn rankIn dimsIn nameIn attributeFormIn numbersIn numbersSpanIn absentIn tileIn cellsOf rowIn eightOf dimsOf rankOf isTile isNumber scalarOf hasKind isIntegers isIntegersOrPointers isInteger sameElement tileThroughIn tileFlagIn signedOf fitsWidth isPowerOfTwo powerBelow countOf productOf timesAll timesOf held isReshape isPackable bitCountOf isPacked bitsIn byteWidthIn eqZ
+unfolding verifyOperation armOf armRule addF flushed shapeIn shapedIn validIn packLeaves isPacking assumeIn attributeRule numberIn hasBit divByRule isDivisorWrong groupRule boundedRule isBoundWrong isOutsideWidth isReversed failIf leaveIf operandTileIn operandTypeIn resultTileIn resultTypeIn integerIn flushesIn entryIn isEntry isTaken firstIn opcodeIn operandsIn operandsSpanIn resultTypesIn resultTypesSpanIn attributesIn attributesSpanIn valueTypeIn formIn kindIn pointerIn rankIn dimsIn nameIn attributeFormIn numbersIn numbersSpanIn absentIn tileIn cellsOf rowTile seenIn eightOf dimsOf rankOf isTile isNumber scalarOf hasKind isIntegers isIntegersOrPointers isInteger sameElement tileThroughIn tileFlagIn signedOf fitsWidth isPowerOfTwo powerBelow countOf productOf timesAll timesOf held isReshape isPackable bitCountOf isPacked bitsIn byteWidthIn eqZ
 cards = refl
 
 -- the numbers of such answers, for operation i

@@ -10,7 +10,7 @@ use Rattle.tables.specs.Sheet.{modeMaskIn, byteWidthIn}
 use Rattle.tables.specs.Tables.{lent}
 use Rattle.tables.specs.declared.Counts.{Counts}
 use Rattle.tiles.specs.Kind.{I1, I16, I32, bitsIn}
-use Rattle.tiles.specs.Tile.{noTile, tileIn, cellsOf, rowIn, eightOf, dimsOf, rankOf, isTile, isNumber, isPointer, scalarOf, hasKind, pointsTo, sameElement}
+use Rattle.tiles.specs.Tile.{noTile, tileIn, cellsOf, rowTile, seenIn, eightOf, dimsOf, rankOf, isTile, isNumber, isPointer, scalarOf, hasKind, pointsTo, sameElement}
 use Rattle.tiles.specs.Shape.{eqZ, allPairs, sameRank, sameShape, sameTile}
 use Rattle.tiles.specs.Rules.{atomicDiffers, isWord, isWrongMask}
 use Rattle.lookups.specs.Lookup.{isTaken, firstIn, isEntry, entryIn, integerIn}
@@ -79,5 +79,5 @@ pub answers :
     ∷ rmw 3 4 2 (0 ∷ 1 ∷ 3 ∷ [])  -- the mask is longer than the value
     ∷ [])
     ≡ (Holds ∷ Holds ∷ Broken 1 ∷ Broken 2 ∷ Broken 3 ∷ Broken 4 ∷ Broken 5 ∷ Broken 5 ∷ Broken 6 ∷ Broken 6 ∷ Broken 7 ∷ Broken 7 ∷ Broken 7 ∷ Broken 7 ∷ Broken 8 ∷ [])
-unfolding opcodeIn operandsIn operandsSpanIn resultTypesIn resultTypesSpanIn attributesIn attributesSpanIn valueTypeIn formIn kindIn pointerIn rankIn dimsIn nameIn attributeFormIn numbersIn numbersSpanIn modeMaskIn byteWidthIn bitsIn noTile tileIn cellsOf rowIn eightOf dimsOf rankOf isTile isNumber isPointer scalarOf hasKind pointsTo sameElement eqZ allPairs sameRank sameShape sameTile atomicDiffers isWord isWrongMask isTaken firstIn isEntry entryIn integerIn operandTypeIn operandTileIn resultTypeIn resultTileIn failIf isSwap takesKind isMode isBetween isBadSwap isBadMode isBadOrder anyWrongMask maskStart isBadMask atomicBy atomicIn signedOf
+unfolding opcodeIn operandsIn operandsSpanIn resultTypesIn resultTypesSpanIn attributesIn attributesSpanIn valueTypeIn formIn kindIn pointerIn rankIn dimsIn nameIn attributeFormIn numbersIn numbersSpanIn modeMaskIn byteWidthIn bitsIn noTile tileIn cellsOf rowTile seenIn eightOf dimsOf rankOf isTile isNumber isPointer scalarOf hasKind pointsTo sameElement eqZ allPairs sameRank sameShape sameTile atomicDiffers isWord isWrongMask isTaken firstIn isEntry entryIn integerIn operandTypeIn operandTileIn resultTypeIn resultTileIn failIf isSwap takesKind isMode isBetween isBadSwap isBadMode isBadOrder anyWrongMask maskStart isBadMask atomicBy atomicIn signedOf
 answers = refl

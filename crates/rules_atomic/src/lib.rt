@@ -1,8 +1,6 @@
 // The rules of the two atomic operations on pointers.
 ghost use mathlib.Core.Path.{_≡_};
 ghost use lib.ListN.{drop};
-ghost use Rattle.tiles.specs.Tile.{tileRow};
-ghost use Rattle.tiles.specs.Rules.{isWrongMask};
 ghost use Rattle.rules_atomic.specs.Arm.{isSwap, takesKind, isMode, isBetween, isBadSwap, isBadMode, isBadOrder, anyWrongMask, maskStart, isBadMask, atomicBy, atomicIn};
 use lookups::Found;
 use lookups::Verdict;
@@ -93,16 +91,6 @@ fn is_bad_order(o: &[u32], a: &[u32], l: &[u64], n: Counts, operation: u64) -> b
     !is_between(1, 4, ordering) | !is_between(0, 2, scope)
 }
 
-// The cells of a type are a tile that is no mask for the value. A token has none, and no tile is made of it.
-fn is_wrong_row(row: &[u64], val: Tile) -> bool
-    ensures { λ r. ⌜ r ≡ isWrongMask (tileRow (now (row .entry))) val ⌝ }
-{
-    if cells::at_u64(row, 0) == 0 {
-        return false;
-    }
-    tiles::is_wrong_mask(tiles::tile_of(row), val)
-}
-
 // From the first on, some operand is a tile that is no mask for the value.
 fn any_wrong_mask(
     t: &[u64],
@@ -118,7 +106,7 @@ fn any_wrong_mask(
     let mut k = first as usize;
     while k < operands.len() {
         let row = tiles::seen_row(t, sheet, n, tables::value_type(v, n, operands[k]));
-        if is_wrong_row(row, val) {
+        if tiles::is_wrong_mask(tiles::tile_of(row), val) {
             return true;
         }
         k += 1;

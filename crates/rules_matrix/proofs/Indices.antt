@@ -1,42 +1,20 @@
 -- The operands that Insert and Extract take for indices: whether they are as many as the dims, and then one of them at a time.
-use Prim.Native.Nat.{ℕ, suc, _+_, _-_, _≤_, _<_, min}
+use Prim.Native.Nat.{ℕ, suc, _+_, _-_, _≤_, _<_}
 use native.Mathlib.Numerals.{add-one}
 use native.Mathlib.Omega.{arith}
 use mathlib.Core.Path.{_≡_, refl}
-use mathlib.Core.Bool.{Bool, true, false, not, _&&_, _||_}
+use mathlib.Core.Bool.{Bool, true, false, _||_}
 use mathlib.Core.List.{List, _∷_}
-use lib.Dec.{eqb}
-use lib.ListN.{length, getD, length-append, length-take, length-drop, length-map, length-replicate}
-use borrow.Author.Tests.{eq-eqb, ne-eqb, eqb-true, eqb-false, lt-ltb}
+use lib.ListN.{length, getD}
+use borrow.Author.Tests.{eq-eqb, ne-eqb, lt-ltb}
 use Rattle.cells.specs.Lists.{from}
 use Rattle.tables.specs.Layout.{operandsIn, valueTypeIn}
 use Rattle.tables.specs.declared.Counts.{Counts}
-use Rattle.tiles.specs.Kind.{I32}
-use Rattle.tiles.specs.Tile.{eightOf, rowTile, tileRow, tileIn, dimsOf, rankOf, isNumber, scalarOf, hasKind}
-use Rattle.tiles.specs.Rules.{isIndex}
-use Rattle.tiles.proofs.Scalars.{kind-by}
+use Rattle.tiles.specs.Tile.{tileIn}
 use Rattle.lookups.specs.Typed.{operandTypeIn, operandTileIn}
 use Rattle.rules_matrix.specs.Part.{any, isNoIndex, indicesDiffer}
 
 -- ---- one of them
-
--- the rank of a tile that is read off cells: as many dims as they say, up to eight, and as there are
-row-rank : (form : ℕ) (row : List ℕ) → rankOf (rowTile form row) ≡ min (min (getD row 5 0) 8) (length row - 8)
-unfolding rowTile rankOf dimsOf eightOf
-row-rank form row = simp (length-take, length-drop, length-append, length-map, length-replicate) (omega arith)
-
--- it has none exactly where the cells say 0 or there are no dims
-no-rank : (m k : ℕ) → eqb (min (min m 8) k) 0 ≡ eqb (min m k) 0
-no-rank m k = by (eqb (min m k) 0) refl
-  where
-    by : (t : Bool) → eqb (min m k) 0 ≡ t → eqb (min (min m 8) k) 0 ≡ t
-    by true e = let q = eqb-true (min m k) 0 e in eq-eqb (min (min m 8) k) 0 (omega arith)
-    by false e = ne-eqb (min (min m 8) k) 0 (λ q. eqb-false (min m k) 0 e (omega arith))
-
-pub index-row : (row : List ℕ) → isIndex (tileRow row) ≡ (eqb (min (getD row 5 0) (length row - 8)) 0 && (eqb (getD row 0 0) 1 && eqb (getD row 1 0) I32))
-unfolding isIndex hasKind scalarOf isNumber rowTile
-index-row row =
-    rw (row-rank (getD row 0 0) row, no-rank (getD row 5 0) (length row - 8), kind-by (eqb (getD row 0 0) 1) (getD row 1 0) I32)
 
 -- operand k is the value at its place
 pub operand-is : (t v o l sheet : List ℕ) (n : Counts) (i k : ℕ) → k < length (operandsIn o l n i) → operandTileIn t v o l sheet n i k ≡ tileIn t sheet n (valueTypeIn v n (getD (operandsIn o l n i) k 0))

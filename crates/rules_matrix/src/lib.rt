@@ -1,7 +1,7 @@
 // The operation rules on matrices and their parts: MmaF, MmaI and MmaFScaled, and Insert and Extract. Each arm answers on any tables.
 ghost use mathlib.Core.Path.{_≡_};
 ghost use Rattle.tables.specs.Layout.{valueTypeIn};
-ghost use Rattle.tiles.specs.Tile.{tileIn, tileRow};
+ghost use Rattle.tiles.specs.Tile.{tileIn};
 ghost use Rattle.tiles.specs.Rules.{isIndex};
 ghost use Rattle.rules_matrix.specs.Mma.{scaledRule, kindsRule, mmaRule, mmaIn};
 ghost use Rattle.rules_matrix.specs.Part.{indicesDiffer, partRule, partIn};
@@ -100,20 +100,12 @@ pub fn mma(
     mma_rule(opcode, a, b, c, result, sa, sb)
 }
 
-// Such cells of a type are a single I32.
-fn is_index_row(row: &[u64]) -> bool
-    ensures { λ r. ⌜ r ≡ isIndex (tileRow (now (row .entry))) ⌝ }
-{
-    let rank = cells::least(cells::at_u64(row, 5), cells::rest(row.len() as u64, 8));
-    let is_i32 = (cells::at_u64(row, 0) == 1) & (cells::at_u64(row, 1) == tiles::I32);
-    (rank == 0) & is_i32
-}
-
-// The value is a single I32. Its cells tell, and no tile is made of them.
+// The value is a single I32.
 fn is_index_value(t: &[u64], v: &[u64], sheet: &[u64], n: Counts, value: u64) -> bool
     ensures { λ r. ⌜ r ≡ isIndex (tileIn (now (t .entry)) (now (sheet .entry)) n (valueTypeIn (now (v .entry)) n value)) ⌝ }
 {
-    is_index_row(tiles::seen_row(t, sheet, n, tables::value_type(v, n, value)))
+    let row = tiles::seen_row(t, sheet, n, tables::value_type(v, n, value));
+    tiles::is_index(tiles::tile_of(row))
 }
 
 // The operands from the offset on are not one index for each of so many dims.

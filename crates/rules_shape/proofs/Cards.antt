@@ -10,7 +10,7 @@ use Rattle.tables.specs.Sheet.{byteWidthIn}
 use Rattle.tables.specs.Tables.{lent}
 use Rattle.tables.specs.declared.Counts.{Counts}
 use Rattle.tiles.specs.Kind.{I1, I4, I8, I64, bitsIn}
-use Rattle.tiles.specs.Tile.{tileIn, cellsOf, rowIn, eightOf, dimsOf, rankOf, isTile, isNumber, sameElement}
+use Rattle.tiles.specs.Tile.{tileIn, cellsOf, rowTile, seenIn, eightOf, dimsOf, rankOf, isTile, isNumber, sameElement}
 use Rattle.tiles.specs.Shape.{countOf, eqZ}
 use Rattle.tiles.specs.Rules.{isReshape, isPackable, bitCountOf, isPacked}
 use Rattle.lookups.specs.Typed.{operandTypeIn, operandTileIn, resultTypeIn, resultTileIn}
@@ -53,5 +53,5 @@ pub cards :
     ∷ answer pack (tile I64 (2 ^ 57 ∷ [])) (tile I8 (2 ^ 30 ∷ 2 ^ 30 ∷ []))  -- the bits are not asked: the result has rank 2
     ∷ [])
     ≡ (Holds ∷ Broken 3 ∷ Holds ∷ Leaves ∷ Leaves ∷ Holds ∷ Leaves ∷ Broken 3 ∷ [])
-unfolding shapeIn shapedIn validIn packLeaves isPacking failIf leaveIf operandTileIn operandTypeIn resultTileIn resultTypeIn opcodeIn operandsIn operandsSpanIn resultTypesIn resultTypesSpanIn valueTypeIn formIn kindIn pointerIn rankIn dimsIn tileIn cellsOf rowIn eightOf dimsOf rankOf isTile isNumber sameElement signedOf countOf productOf timesAll timesOf held fitsWidth isReshape isPackable bitCountOf isPacked bitsIn byteWidthIn eqZ
+unfolding shapeIn shapedIn validIn packLeaves isPacking failIf leaveIf operandTileIn operandTypeIn resultTileIn resultTypeIn opcodeIn operandsIn operandsSpanIn resultTypesIn resultTypesSpanIn valueTypeIn formIn kindIn pointerIn rankIn dimsIn tileIn cellsOf rowTile seenIn eightOf dimsOf rankOf isTile isNumber sameElement signedOf countOf productOf timesAll timesOf held fitsWidth isReshape isPackable bitCountOf isPacked bitsIn byteWidthIn eqZ
 cards = refl

@@ -4,7 +4,6 @@ ghost use mathlib.Core.Bool.{_||_};
 ghost use mathlib.Core.List.{[]};
 ghost use lib.Dec.{eqb, leb};
 ghost use Rattle.tables.specs.Tables.{lent};
-ghost use Rattle.tiles.specs.Tile.{tileRow, isNumber, isPointer};
 ghost use Rattle.lookups.specs.Lookup.{isAbsent, isSome};
 ghost use Rattle.rules_small.specs.Rounding.{isContained, isRounding, fToI, addF, exp, fToF, flushed};
 ghost use Rattle.rules_small.specs.Memory.{pointerBy, makeView, isNegative, isMisaligned, alloca};
@@ -115,13 +114,6 @@ fn is_misaligned(bits: u64, natural: u64) -> bool
     (bits == 0) | is_negative(bits) | !arith::power_of_two(bits) | (bits < natural)
 }
 
-// The cells of a tile of pointers.
-fn is_pointer(row: &[u64]) -> bool
-    ensures { λ r. ⌜ r ≡ isPointer (tileRow (now (row .entry))) ⌝ }
-{
-    tiles::form_of(row) == 2
-}
-
 // Alloca: so many elements, aligned.
 pub fn alloca(
     t: &[u64],
@@ -141,14 +133,14 @@ pub fn alloca(
     let found = lookups::integer(o, a, l, n, operation, names::ALIGNMENT);
     let alignment = lookups::number_or(found, 0);
     let typed = lookups::result_type(o, l, n, operation);
-    let result = lookups::row_by(t, sheet, n, typed);
-    if !is_pointer(result) {
+    let result = tiles::tile_of(lookups::row_by(t, sheet, n, typed));
+    if !tiles::is_pointer(result) {
         return Verdict::Broken(2);
     }
     if is_negative(lookups::number_or(count, 0)) {
         return Verdict::Broken(3);
     }
-    if is_misaligned(alignment, tables::byte_width(sheet, tiles::kind_of(result))) {
+    if is_misaligned(alignment, tables::byte_width(sheet, result.kind)) {
         return Verdict::Broken(4);
     }
     Verdict::Holds
@@ -290,13 +282,6 @@ fn is_rounded(sheet: &[u64], version: u64, src: u64, dst: u64, rounding: Found) 
     }
 }
 
-// The cells of a tile of numbers.
-fn is_number(row: &[u64]) -> bool
-    ensures { λ r. ⌜ r ≡ isNumber (tileRow (now (row .entry))) ⌝ }
-{
-    tiles::form_of(row) == 1
-}
-
 // FToF: between two float kinds, by a rounding that they take.
 pub fn f_to_f(
     version: u64,
@@ -312,28 +297,26 @@ pub fn f_to_f(
     ensures { λ r. ⌜ r ≡ fToF version (now (sheet .entry)) (lent (now (t .entry)) (now (v .entry)) (now (o .entry)) (now (a .entry)) [] [] [] (now (l .entry)) n) operation ⌝ }
 {
     let taken = lookups::operand_type(v, o, l, n, operation, 0);
-    let src = lookups::row_by(t, sheet, n, taken);
-    if !is_number(src) {
+    let src = tiles::tile_of(lookups::row_by(t, sheet, n, taken));
+    if !tiles::is_number(src) {
         return Verdict::Broken(1);
     }
     let given = lookups::result_type(o, l, n, operation);
-    let dst = lookups::row_by(t, sheet, n, given);
-    if !is_number(dst) {
+    let dst = tiles::tile_of(lookups::row_by(t, sheet, n, given));
+    if !tiles::is_number(dst) {
         return Verdict::Broken(2);
     }
-    let from = tiles::kind_of(src);
-    if tiles::is_integer(from) {
+    if tiles::is_integer(src.kind) {
         return Verdict::Broken(3);
     }
-    let to = tiles::kind_of(dst);
-    if tiles::is_integer(to) {
+    if tiles::is_integer(dst.kind) {
         return Verdict::Broken(4);
     }
-    if from == to {
+    if src.kind == dst.kind {
         return Verdict::Broken(5);
     }
     let rounding = lookups::integer(o, a, l, n, operation, names::ROUNDING_MODE);
-    if !is_rounded(sheet, version, from, to, rounding) {
+    if !is_rounded(sheet, version, src.kind, dst.kind, rounding) {
         return Verdict::Broken(6);
     }
     Verdict::Holds

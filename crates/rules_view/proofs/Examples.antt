@@ -10,7 +10,7 @@ use Rattle.tables.specs.Sheet.{modeMaskIn, tileFlagIn, tileThroughIn}
 use Rattle.tables.specs.Tables.{lent}
 use Rattle.tables.specs.declared.Counts.{Counts}
 use Rattle.tiles.specs.Kind.{I32, I64, F32, isInteger}
-use Rattle.tiles.specs.Tile.{noTile, eightOf, cellsOf, rowIn, tileIn, viewIn, dimsOf, rankOf, dimOf, isTile, isNumber, scalarOf, hasKind, isIntegers}
+use Rattle.tiles.specs.Tile.{noTile, eightOf, cellsOf, rowTile, seenIn, tileIn, viewIn, dimsOf, rankOf, dimOf, isTile, isNumber, scalarOf, hasKind, isIntegers}
 use Rattle.tiles.specs.Shape.{eqZ, allPairs, sameDim, sameRank, sameShape}
 use Rattle.tiles.specs.Rules.{isAxisIndex}
 use Rattle.lookups.specs.Lookup.{isTaken, firstIn, isEntry, entryIn, integerIn, segmentsIn, segmentIn}
@@ -98,7 +98,7 @@ pub kept :
     ∷ reduce 3 1 1 0
     ∷ [])
     ≡ replicate 8 Holds
-unfolding opcodeIn resultTypesSpanIn resultTypesIn operandsSpanIn operandsIn attributesSpanIn attributesIn nameIn attributeFormIn numbersSpanIn numbersIn valueTypeIn formIn kindIn pointerIn paddedIn sparseIn rankIn dimsIn modeMaskIn tileFlagIn tileThroughIn noTile eightOf cellsOf rowIn tileIn viewIn dimsOf rankOf dimOf isTile isNumber scalarOf hasKind isIntegers isInteger eqZ allPairs sameDim sameRank sameShape isAxisIndex isTaken firstIn isEntry entryIn integerIn segmentsIn segmentIn operandTypeIn resultTypeIn operandTileIn resultTileIn failIf viewPlace indexStart segmentPlace isOtherTile isNoReduction takesKind isModeWrong isCountWrong isOrderWrong isOtherKind indexRule elementAfter isSparseAxis valueIn indicesRule viewBy viewRule viewArmIn signedOf
+unfolding opcodeIn resultTypesSpanIn resultTypesIn operandsSpanIn operandsIn attributesSpanIn attributesIn nameIn attributeFormIn numbersSpanIn numbersIn valueTypeIn formIn kindIn pointerIn paddedIn sparseIn rankIn dimsIn modeMaskIn tileFlagIn tileThroughIn noTile eightOf cellsOf rowTile seenIn tileIn viewIn dimsOf rankOf dimOf isTile isNumber scalarOf hasKind isIntegers isInteger eqZ allPairs sameDim sameRank sameShape isAxisIndex isTaken firstIn isEntry entryIn integerIn segmentsIn segmentIn operandTypeIn resultTypeIn operandTileIn resultTileIn failIf viewPlace indexStart segmentPlace isOtherTile isNoReduction takesKind isModeWrong isCountWrong isOrderWrong isOtherKind indexRule elementAfter isSparseAxis valueIn indicesRule viewBy viewRule viewArmIn signedOf
 kept = refl
 
 pub refused :
@@ -130,5 +130,5 @@ pub refused :
     ∷ loadBy 2 (2 ^ 64 - 1) 0
     ∷ [])
     ≡ (Broken 1 ∷ Broken 2 ∷ Broken 3 ∷ Broken 3 ∷ Broken 4 ∷ Broken 5 ∷ Broken 5 ∷ Broken 5 ∷ Broken 5 ∷ Broken 6 ∷ Broken 6 ∷ Broken 7 ∷ Broken 7 ∷ Broken 8 ∷ Broken 8 ∷ Broken 9 ∷ Broken 10 ∷ Broken 11 ∷ Broken 11 ∷ Broken 12 ∷ replicate 6 (Broken 13))
-unfolding opcodeIn resultTypesSpanIn resultTypesIn operandsSpanIn operandsIn attributesSpanIn attributesIn nameIn attributeFormIn numbersSpanIn numbersIn valueTypeIn formIn kindIn pointerIn paddedIn sparseIn rankIn dimsIn modeMaskIn tileFlagIn tileThroughIn noTile eightOf cellsOf rowIn tileIn viewIn dimsOf rankOf dimOf isTile isNumber scalarOf hasKind isIntegers isInteger eqZ allPairs sameDim sameRank sameShape isAxisIndex isTaken firstIn isEntry entryIn integerIn segmentsIn segmentIn operandTypeIn resultTypeIn operandTileIn resultTileIn failIf viewPlace indexStart segmentPlace isOtherTile isNoReduction takesKind isModeWrong isCountWrong isOrderWrong isOtherKind indexRule elementAfter isSparseAxis valueIn indicesRule viewBy viewRule viewArmIn signedOf
+unfolding opcodeIn resultTypesSpanIn resultTypesIn operandsSpanIn operandsIn attributesSpanIn attributesIn nameIn attributeFormIn numbersSpanIn numbersIn valueTypeIn formIn kindIn pointerIn paddedIn sparseIn rankIn dimsIn modeMaskIn tileFlagIn tileThroughIn noTile eightOf cellsOf rowTile seenIn tileIn viewIn dimsOf rankOf dimOf isTile isNumber scalarOf hasKind isIntegers isInteger eqZ allPairs sameDim sameRank sameShape isAxisIndex isTaken firstIn isEntry entryIn integerIn segmentsIn segmentIn operandTypeIn resultTypeIn operandTileIn resultTileIn failIf viewPlace indexStart segmentPlace isOtherTile isNoReduction takesKind isModeWrong isCountWrong isOrderWrong isOtherKind indexRule elementAfter isSparseAxis valueIn indicesRule viewBy viewRule viewArmIn signedOf
 refused = refl

@@ -1,7 +1,6 @@
 // The operation rule of LoadViewTko, StoreViewTko and AtomicRedViewTko. The arm answers on any tables.
 ghost use mathlib.Core.Path.{_≡_};
 ghost use lib.Dec.{eqb, leb};
-ghost use Rattle.tiles.specs.Tile.{tileRow, isTile, isIntegers};
 ghost use Rattle.lookups.specs.Lookup.{isAbsent, isSome};
 ghost use Rattle.rules_view.specs.View.{viewPlace, indexStart, segmentPlace, isOtherTile, isNoReduction, takesKind, isModeWrong, isCountWrong, isOrderWrong, isOtherKind, indexRule, elementAfter, isHolds, isSparseAxis, valueIn, indicesRule, viewBy, viewRule, viewArmIn};
 use lookups::Found;
@@ -173,53 +172,39 @@ fn is_other_kind(element: Found, kind: u64) -> bool
     }
 }
 
-// The cells of a tile.
-fn is_tile(row: &[u64]) -> bool
-    ensures { λ r. ⌜ r ≡ isTile (tileRow (now (row .entry))) ⌝ }
+// What the index of an axis has to be.
+fn index_rule(index: Tile, view: Tile, axis: u64, sparse: bool, element: Found) -> Verdict
+    ensures { λ r. ⌜ r ≡ indexRule index view axis sparse element ⌝ }
 {
-    tiles::form_of(row) != 0
-}
-
-// The cells of a tile of integers.
-fn is_integers(row: &[u64]) -> bool
-    ensures { λ r. ⌜ r ≡ isIntegers (tileRow (now (row .entry))) ⌝ }
-{
-    (tiles::form_of(row) == 1) & tiles::is_integer(tiles::kind_of(row))
-}
-
-// What the index of an axis has to be, by the cells of its type: a dense one is asked no dim.
-fn index_rule(row: &[u64], view: Tile, axis: u64, sparse: bool, element: Found) -> Verdict
-    ensures { λ r. ⌜ r ≡ indexRule (tileRow (now (row .entry))) view axis sparse element ⌝ }
-{
-    if !is_tile(row) {
+    if !tiles::is_tile(index) {
         return Verdict::Broken(8);
     }
-    if !is_integers(row) {
+    if !tiles::is_integers(index) {
         return Verdict::Broken(9);
     }
     if sparse {
-        if !tiles::is_axis_index(tiles::tile_of(row), view, axis) {
+        if !tiles::is_axis_index(index, view, axis) {
             return Verdict::Broken(10);
         }
         return Verdict::Holds;
     }
-    if tiles::rank_of(row) != 0 {
+    if tiles::rank(index) != 0 {
         return Verdict::Broken(11);
     }
-    if is_other_kind(element, tiles::kind_of(row)) {
+    if is_other_kind(element, index.kind) {
         return Verdict::Broken(12);
     }
     Verdict::Holds
 }
 
 // The kind of the dense indices, once this one is seen.
-fn element_after(row: &[u64], sparse: bool, element: Found) -> Found
-    ensures { λ r. ⌜ r ≡ elementAfter (tileRow (now (row .entry))) sparse element ⌝ }
+fn element_after(index: Tile, sparse: bool, element: Found) -> Found
+    ensures { λ r. ⌜ r ≡ elementAfter index sparse element ⌝ }
 {
     if sparse {
         return element;
     }
-    Found::Number(tiles::kind_of(row))
+    Found::Number(index.kind)
 }
 
 fn holds(verdict: Verdict) -> bool
@@ -285,7 +270,7 @@ fn indices_rule(
     let mut axis: u64 = 0;
     while axis < rank {
         let typed = lookups::operand_type(v, o, l, n, operation, start + axis);
-        let index = lookups::row_by(t, sheet, n, typed);
+        let index = tiles::tile_of(lookups::row_by(t, sheet, n, typed));
         let sparse = is_sparse_axis(t, n, id, axis);
         let rule = index_rule(index, view, axis, sparse, element);
         if !holds(rule) {

@@ -12,7 +12,7 @@ use Rattle.tables.specs.Layout.{formIn, kindIn, pointerIn, rankIn, dimsIn}
 use Rattle.tables.specs.Sheet.{byteWidthIn, tileFlagIn, tileThroughIn}
 use Rattle.tables.specs.declared.Counts.{Counts}
 use Rattle.tiles.specs.Kind.{I4, I8, I32, F16, F32, F4E2M1FN, F8E8M0FNU, bitsIn}
-use Rattle.tiles.specs.Tile.{noTile, eightOf, cellsOf, rowIn, tileIn, viewIn, dimsOf, rankOf, dimOf, isNumber, sameElement}
+use Rattle.tiles.specs.Tile.{noTile, eightOf, cellsOf, rowTile, seenIn, tileIn, viewIn, dimsOf, rankOf, dimOf, isNumber, sameElement}
 use Rattle.tiles.specs.Shape.{eqZ, anyPair, allPairs, sameDim, sameRank, sameShape, undividedBy, isUneven, stretchesTo, isStretched, quotientOf, countOf}
 use Rattle.tiles.specs.Rules.{isBroadcast, hasAxes, isPermutation, movedFrom, isPermuted, isNoPart, bitCountOf, isPacked}
 use Rattle.tiles.specs.Mma.{rowOf, columnOf, mmaDimsDiffer, vectorOf, isScaled, isScaleKinds}
@@ -33,15 +33,15 @@ abbrev seen-through : List ℕ
 seen-through = replicate 304 0 ++ (1 ∷ [])
 
 read : tileIn (row 0) [] one-type 0 ≡ of I32 (pos 2 ∷ negsuc 0 ∷ [])
-unfolding tileIn cellsOf rowIn eightOf formIn kindIn pointerIn rankIn dimsIn tileThroughIn tileFlagIn signedOf
+unfolding tileIn cellsOf rowTile seenIn eightOf formIn kindIn pointerIn rankIn dimsIn tileThroughIn tileFlagIn signedOf
 read = refl
 
 not-through : tileIn (row 7) [] one-type 0 ≡ noTile
-unfolding tileIn cellsOf rowIn eightOf formIn kindIn pointerIn rankIn dimsIn tileThroughIn tileFlagIn noTile
+unfolding tileIn cellsOf rowTile seenIn eightOf formIn kindIn pointerIn rankIn dimsIn tileThroughIn tileFlagIn noTile
 not-through = refl
 
 through : tileIn (row 7) seen-through one-type 0 ≡ of I32 (pos 2 ∷ negsuc 0 ∷ [])
-unfolding tileIn cellsOf rowIn eightOf formIn kindIn pointerIn rankIn dimsIn tileThroughIn tileFlagIn signedOf
+unfolding tileIn cellsOf rowTile seenIn eightOf formIn kindIn pointerIn rankIn dimsIn tileThroughIn tileFlagIn signedOf
 through = refl
 
 -- no form 1 is a view

@@ -10,41 +10,41 @@ use lib.ListN.{length, getD, take, drop, replicate, length-take, length-map}
 use lib.Seq.{take-take, take-append-le}
 use borrow.Author.Tests.{eq-eqb, eqb-true}
 use Rattle.arith.specs.Signed.{signedOf}
-use Rattle.tables.specs.Layout.{formIn, pointerIn, dimsIn}
-use Rattle.tables.specs.Sheet.{tileThroughIn}
+use Rattle.tables.specs.Layout.{formIn, kindIn, dimsIn}
 use Rattle.tables.specs.declared.Counts.{Counts}
-use Rattle.tiles.specs.Tile.{noTile, eightOf, cellsOf, rowIn, tileIn, viewIn, dimsOf, rankOf, sameElement}
+use Rattle.tiles.specs.Tile.{noTile, eightOf, cellsOf, rowTile, seenIn, tileIn, viewIn, dimsOf, rankOf, sameElement}
 use Rattle.tiles.specs.Shape.{eqZ, allPairs, sameRank, sameShape, sameTile}
 use Rattle.tiles.specs.declared.Tile.{Tile}
 use Rattle.tiles.proofs.Equal.{eqZ-refl}
-use Rattle.tiles.proofs.Rows.{take-least, dims-are}
+use Rattle.tiles.proofs.Rows.{take-least, cells-at, dims-are}
 
 -- ---- read off the tables
 
-few-dims : (t : List ℕ) (n : Counts) (id : ℕ) → length (dimsIn t n id) ≤ 8
-unfolding dimsIn
-few-dims t n id = simp length-take (omega arith)
-
-either-rank : (b : Bool) (x : Tile) → x .rank ≤ 8 → cond b x noTile .rank ≤ 8
+none-rank : noTile .rank ≤ 8
 unfolding noTile
-either-rank true x h = h
-either-rank false x h = omega arith
+none-rank = omega arith
 
-row-rank : (form : ℕ) (t : List ℕ) (n : Counts) (id : ℕ) → rowIn form t n id .rank ≤ 8
-unfolding rowIn
-row-rank form t n id = few-dims t n id
+row-rank : (form : ℕ) (row : List ℕ) → rowTile form row .rank ≤ 8
+unfolding rowTile
+row-rank form row = simp length-take (omega arith)
 
 -- its rank is at most 8,
 pub tile-rank : (t sheet : List ℕ) (n : Counts) (id : ℕ) → tileIn t sheet n id .rank ≤ 8
 unfolding tileIn
-tile-rank t sheet n id =
-    either-rank ((eqb (formIn t n id) 1 || eqb (formIn t n id) 2) && (eqb (pointerIn t n id) 0 || tileThroughIn sheet))
-    (rowIn (formIn t n id) t n id) (row-rank (formIn t n id) t n id)
+tile-rank t sheet n id = row-rank (getD (seenIn t sheet n id) 0 0) (seenIn t sheet n id)
 
 pub view-rank : (t : List ℕ) (n : Counts) (id : ℕ) → viewIn t n id .rank ≤ 8
 unfolding viewIn
-view-rank t n id =
-    either-rank (leb 4 (formIn t n id) && leb (formIn t n id) 6) (rowIn 1 t n id) (row-rank 1 t n id)
+view-rank t n id = either-rank (leb 4 (formIn t n id) && leb (formIn t n id) 6) (rowTile 1 (cellsOf t n id)) (row-rank 1 (cellsOf t n id))
+  where
+    either-rank : (b : Bool) (x : Tile) → x .rank ≤ 8 → cond b x noTile .rank ≤ 8
+    either-rank true x h = h
+    either-rank false x h = none-rank
+
+-- its kind is that of the type,
+pub row-kind : (form : ℕ) (t : List ℕ) (n : Counts) (id : ℕ) → rowTile form (cellsOf t n id) .kind ≡ kindIn t n id
+unfolding rowTile kindIn
+row-kind form t n id = cells-at t n id 1 (omega arith)
 
 -- and its dims are those of the type.
 take-map : (k : ℕ) (xs : List ℕ) → take k (map signedOf xs) ≡ map signedOf (take k xs)
@@ -52,17 +52,17 @@ take-map zero xs = refl
 take-map (suc k) [] = refl
 take-map (suc k) (x ∷ xs) = ap (_∷_ (signedOf x)) (take-map k xs)
 
-pub row-dims : (form : ℕ) (t : List ℕ) (n : Counts) (id : ℕ) → dimsOf (rowIn form t n id) ≡ map signedOf (dimsIn t n id)
-unfolding rowIn dimsOf eightOf
+pub row-dims : (form : ℕ) (t : List ℕ) (n : Counts) (id : ℕ) → dimsOf (rowTile form (cellsOf t n id)) ≡ map signedOf (dimsIn t n id)
+unfolding rowTile dimsOf eightOf
 row-dims form t n id =
     let all = drop 8 (cellsOf t n id) in
     let m = min (getD (cellsOf t n id) 5 0) 8 in
-    let e : length (dimsIn t n id) ≡ min m (length all) = ap length (sym (dims-are t n id)) ∙ length-take m all in
-    let few = few-dims t n id in
+    let r = length (take m all) in
+    let e : r ≡ min m (length all) = length-take m all in
     let l : length (map signedOf all) ≡ length all = length-map all signedOf in
-    take-take (length (dimsIn t n id)) 8 (map signedOf all ++ replicate 8 (pos 0)) few
-    ∙ take-append-le (length (dimsIn t n id)) (map signedOf all) (replicate 8 (pos 0)) (omega arith)
-    ∙ take-map (length (dimsIn t n id)) all
+    take-take r 8 (map signedOf all ++ replicate 8 (pos 0)) (omega arith)
+    ∙ take-append-le r (map signedOf all) (replicate 8 (pos 0)) (omega arith)
+    ∙ take-map r all
     ∙ ap (map signedOf) (ap (λ (k : ℕ). take k all) e ∙ take-least m all ∙ dims-are t n id)
 
 -- ---- the same tile: "equal in form, kind and dims"

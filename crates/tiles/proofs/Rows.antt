@@ -3,20 +3,18 @@ use mathlib.Core.Path.{_≡_, refl, sym, ap, _∙_}
 use mathlib.Core.Bool.{Bool, true, false, cond, _&&_, _||_}
 use mathlib.Core.List.{List, [], _∷_}
 use mathlib.Core.Logic.{⊎-elim}
-use Prim.Native.Nat.{ℕ, zero, suc, _+_, _-_, _*_, _≤_, _<_, min}
+use Prim.Native.Nat.{ℕ, zero, suc, _+_, _*_, _<_, min}
 use native.Mathlib.Omega.{arith}
 use native.Mathlib.Nat.{add-zero, add-suc}
-use borrow.Author.Tests.{eqb-true, ltb-true, ltb-false}
+use borrow.Author.Tests.{eqb-true}
 use lib.Dec.{eqb, ltb}
-use lib.IntN.{pos}
-use lib.ListN.{length, getD, take, drop, length-take, length-append, length-map, length-replicate, length-drop, List·getD-eq-default}
+use lib.ListN.{length, getD, take, drop}
 use lib.Seq.{getD-take, getD-drop, take-take, drop-drop, take-all}
-use Rattle.arith.specs.Signed.{signedOf}
 use Rattle.cells.proofs.Rows.{lt-or-ge}
-use Rattle.tables.specs.Layout.{countedCell, formIn, kindIn, pointerIn, rankIn, dimsIn}
+use Rattle.tables.specs.Layout.{countedCell, formIn, pointerIn, rankIn, dimsIn}
 use Rattle.tables.specs.Sheet.{tileThroughIn}
 use Rattle.tables.specs.declared.Counts.{Counts}
-use Rattle.tiles.specs.Tile.{noTile, eightOf, cellsOf, rowTile, rowIn, tileIn, viewIn, dimsOf, rankOf}
+use Rattle.tiles.specs.Tile.{noTile, eightOf, cellsOf, rowTile, seenIn}
 
 take-none : (b : ℕ) → _≡_ {A = List ℕ} (take b []) []
 take-none zero = refl
@@ -60,15 +58,6 @@ module _ (t : List ℕ) (n : Counts) (id : ℕ) where
           rw rank (ap (take m) (drop-take 8 8 (drop (id * 16) t)) ∙ take-take m 8 (drop 8 (drop (id * 16) t)) (omega arith) ∙ ap (take m) (drop-drop 8 (id * 16) t))
       by-test false = refl
 
-  pub row-in : (f : ℕ) → rowTile f (cellsOf t n id) ≡ rowIn f t n id
-  unfolding rowTile rowIn kindIn
-  row-in f = rw (dims-are, cells-at 1 (omega arith))
-
--- the rank of a tile, by its cells
-pub rank-row : (form : ℕ) (row : List ℕ) → rankOf (rowTile form row) ≡ min (min (getD row 5 0) 8) (length row - 8)
-unfolding rankOf dimsOf rowTile eightOf
-rank-row form row = simp (length-take, length-append, length-map, length-replicate, length-drop) (omega arith)
-
 -- no cells, no tile
 pub no-row : rowTile 0 [] ≡ noTile
 unfolding rowTile eightOf noTile
@@ -89,8 +78,8 @@ module _ (t sheet : List ℕ) (n : Counts) (id : ℕ) where
       let row = cellsOf t n id in
       (eqb (getD row 0 0) 1 || eqb (getD row 0 0) 2) && (eqb (getD row 2 0) 0 || tileThroughIn sheet)
 
-  pub tile-by : tileIn t sheet n id ≡ cond sees (rowTile (getD (cellsOf t n id) 0 0) (cellsOf t n id)) noTile
-  unfolding tileIn formIn pointerIn
-  tile-by =
-      rw (cells-at t n id 0 (omega arith), cells-at t n id 2 (omega arith), row-in t n id (countedCell (n .types) 16 t id 0))
-      (ap (λ (b : Bool). cond b (rowIn (countedCell (n .types) 16 t id 0) t n id) noTile) (seen-same (countedCell (n .types) 16 t id 0) (countedCell (n .types) 16 t id 2) (tileThroughIn sheet)))
+  pub seen-by : seenIn t sheet n id ≡ cond sees (cellsOf t n id) []
+  unfolding seenIn formIn pointerIn
+  seen-by =
+      rw (cells-at t n id 0 (omega arith), cells-at t n id 2 (omega arith))
+      (ap (λ (b : Bool). cond b (cellsOf t n id) []) (seen-same (countedCell (n .types) 16 t id 0) (countedCell (n .types) 16 t id 2) (tileThroughIn sheet)))

@@ -1,13 +1,13 @@
 -- A tile, as the rules see a type: its form, its kind, and its shape. "a shape is a rank and eight dims held together".
 use Prim.Native.Nat.{ℕ, _*_, min}
 use mathlib.Core.Bool.{Bool, true, false, not, cond, _&&_, _||_}
-use mathlib.Core.List.{List, _++_, map}
+use mathlib.Core.List.{List, [], _++_, map}
 use mathlib.Core.Option.{Option, some, none}
 use lib.Dec.{eqb, leb, ltb}
 use lib.IntN.{ℤ, pos}
 use lib.ListN.{length, getD, take, drop, replicate}
 use Rattle.arith.specs.Signed.{signedOf}
-use Rattle.tables.specs.Layout.{formIn, kindIn, pointerIn, dimsIn}
+use Rattle.tables.specs.Layout.{formIn, pointerIn}
 use Rattle.tables.specs.Sheet.{tileThroughIn}
 use Rattle.tables.specs.Tables.{Tables}
 use Rattle.tables.specs.declared.Counts.{Counts}
@@ -38,26 +38,21 @@ rowTile form row = record {
   dims = eightOf (drop 8 row);
 }
 
--- the tile that a type's own cells are; none where there are none
+-- the tile that a type's own cells are; no cells, no tile
 abbrev pub tileRow : List ℕ → Tile
 tileRow row = rowTile (getD row 0 0) row
 
--- a type's kind, rank and eight dims, as a tile of this form
-unfoldable pub rowIn : ℕ → List ℕ → Counts → ℕ → Tile
-rowIn form t n id = record {
-  form = form;
-  kind = kindIn t n id;
-  rank = length (dimsIn t n id);
-  dims = eightOf (drop 8 (cellsOf t n id));
-}
-
--- The tile that a type is. "Forms of `T`: .. 1 tile, 2 pointer tile"; where the sheet says that no tile is seen through a pointer
--- attribute, "a type with a pointer attribute is no tile."
-unfoldable pub tileIn : List ℕ → List ℕ → Counts → ℕ → Tile
-tileIn t sheet n id =
+-- The cells of a type that is a tile, none of any other. "Forms of `T`: .. 1 tile, 2 pointer tile"; where the sheet says that no tile is seen
+-- through a pointer attribute, "a type with a pointer attribute is no tile."
+unfoldable pub seenIn : List ℕ → List ℕ → Counts → ℕ → List ℕ
+seenIn t sheet n id =
     cond ((eqb (formIn t n id) 1 || eqb (formIn t n id) 2) && (eqb (pointerIn t n id) 0 || tileThroughIn sheet))
-    (rowIn (formIn t n id) t n id)
-    noTile
+    (cellsOf t n id)
+    []
+
+-- the tile that a type is
+unfoldable pub tileIn : List ℕ → List ℕ → Counts → ℕ → Tile
+tileIn t sheet n id = tileRow (seenIn t sheet n id)
 
 abbrev pub tileOf : Tables → List ℕ → ℕ → Tile
 tileOf x sheet id = tileIn (x .t) sheet (x .counts) id
@@ -65,7 +60,7 @@ tileOf x sheet id = tileIn (x .t) sheet (x .counts) id
 -- The tile that a view takes and gives: "4 partition, 5 strided, 6 gather/scatter", through any pointer attribute. "A view's kind is its
 -- tensor's".
 unfoldable pub viewIn : List ℕ → Counts → ℕ → Tile
-viewIn t n id = cond (leb 4 (formIn t n id) && leb (formIn t n id) 6) (rowIn 1 t n id) noTile
+viewIn t n id = cond (leb 4 (formIn t n id) && leb (formIn t n id) 6) (rowTile 1 (cellsOf t n id)) noTile
 
 abbrev pub viewOf : Tables → ℕ → Tile
 viewOf x id = viewIn (x .t) (x .counts) id

@@ -7,9 +7,9 @@ ghost use mathlib.Core.List.{map};
 ghost use lib.ListN.{drop};
 ghost use Rattle.cells.specs.Lists.{mem};
 ghost use Rattle.tiles.specs.Kind.{isInteger, bitsIn};
-ghost use Rattle.tiles.specs.Tile.{noTile, eightOf, cellsOf, rowTile, tileRow, tileIn, viewIn, rankOf, dimOf, dimsOf, isTile, isNumber, isPointer, hasKind, sameScalar, sameElement, pointsTo, isIntegers, isIntegersOrPointers};
+ghost use Rattle.tiles.specs.Tile.{noTile, eightOf, cellsOf, rowTile, tileRow, seenIn, viewIn, rankOf, dimOf, dimsOf, isTile, isNumber, isPointer, hasKind, sameScalar, sameElement, pointsTo, isIntegers, isIntegersOrPointers};
 ghost use Rattle.tiles.specs.Shape.{eqZ, anyPair, allPairs, sameDim, sameRank, sameShape, sameTile, undividedBy, isUneven, stretchesTo, isStretched, quotientOf, countOf, hasLeft, sameProduct};
-ghost use Rattle.tiles.specs.Rules.{sameBits, isBitcast, isReshape, isBroadcast, hasAxes, isPermutation, movedFrom, isPermuted, isPackable, bitCountOf, inBytes, isPacked, atomicDiffers, isWord, isWrongMask, outsideDim, isGroupOutside, isGroupsOutside, isPowerBase, isPowerExponent, isNoPart, isAxisIndex};
+ghost use Rattle.tiles.specs.Rules.{sameBits, isBitcast, isReshape, isBroadcast, hasAxes, isPermutation, movedFrom, isPermuted, isPackable, bitCountOf, inBytes, isPacked, atomicDiffers, isWord, isWrongMask, outsideDim, isGroupOutside, isGroupsOutside, isPowerBase, isPowerExponent, isNoPart, isIndex, isAxisIndex};
 ghost use Rattle.tiles.specs.Mma.{rowOf, columnOf, mmaRanksDiffer, mmaDimsDiffer, isMmaPair, isMmaKinds, scaleRanksDiffer, scaleDimsDiffer, vectorOf, isScaled, isScaleKinds};
 use arith::Product;
 use arith::Remainder;
@@ -127,7 +127,7 @@ fn type_row(t: &[u64], n: Counts, id: u64) -> &[u64]
 
 // The cells of a type that is a tile; none of any other.
 pub fn seen_row<'a>(t: &'a [u64], sheet: &[u64], n: Counts, id: u64) -> &'a [u64]
-    ensures { λ r. ⌜ tileRow (now r) ≡ tileIn (now (t .entry)) (now (sheet .entry)) n id ⌝ }
+    ensures { λ r. ⌜ now r ≡ seenIn (now (t .entry)) (now (sheet .entry)) n id ⌝ }
 {
     let row = type_row(t, n, id);
     let form = cells::at_u64(row, 0);
@@ -143,26 +143,6 @@ pub fn tile_of(row: &[u64]) -> Tile
     ensures { λ r. ⌜ r ≡ tileRow (now (row .entry)) ⌝ }
 {
     row_tile(cells::at_u64(row, 0), row)
-}
-
-// The form, the kind and the rank of that tile, where its dims are not asked.
-pub fn form_of(row: &[u64]) -> u64
-    ensures { λ r. ⌜ r ≡ tileRow (now (row .entry)) .form ⌝ }
-{
-    cells::at_u64(row, 0)
-}
-
-pub fn kind_of(row: &[u64]) -> u64
-    ensures { λ r. ⌜ r ≡ tileRow (now (row .entry)) .kind ⌝ }
-{
-    cells::at_u64(row, 1)
-}
-
-pub fn rank_of(row: &[u64]) -> u64
-    ensures { λ r. ⌜ r ≡ rankOf (tileRow (now (row .entry))) ⌝ }
-{
-    let wanted = cells::least(cells::at_u64(row, 5), tables::MAX_RANK);
-    cells::least(wanted, cells::rest(row.len() as u64, 8))
 }
 
 // The tile that a view takes and gives.
@@ -616,6 +596,13 @@ pub fn is_no_part(small: Tile, large: Tile) -> bool
     ensures { λ r. ⌜ r ≡ isNoPart small large ⌝ }
 {
     !same_element(small, large) | !same_rank(small, large) | uneven(small, large)
+}
+
+// A single I32.
+pub fn is_index(t: Tile) -> bool
+    ensures { λ r. ⌜ r ≡ isIndex t ⌝ }
+{
+    (rank(t) == 0) & has_kind(t, I32)
 }
 
 // ---- views

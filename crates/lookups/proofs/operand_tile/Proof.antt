@@ -1,7 +1,7 @@
 -- `operand_tile` meets its contract: the tile of the cells of the type.
 use borrow.Author.Needs.{needs}
-use mathlib.Core.Path.{_∙_}
-use Rattle.lookups.specs.Typed.{operandTileIn}
+use Rattle.lookups.specs.Typed.{operandTypeIn, operandTileIn}
+use Rattle.lookups.proofs.Rows.{made}
 use Rattle.lookups.proofs.operand_tile.Statement.{statement}
 use Rattle.lookups.proofs.operand_tile.Tie as tie
 
@@ -16,7 +16,9 @@ tile-of-requires c κs = search needs
 
 returns : tie.Need-returns
 unfolding operandTileIn
-returns c = rw (← c .before .before .operand-type .ensures) (c .tile-of .ensures ∙ c .before .row-by .ensures)
+returns c =
+    let a = c .before .before .before .before .before .before .before .before .args in
+    made (a .t .now) (a .sheet .now) (a .n) (c .before .before .operand-type .result) (operandTypeIn (a .v .now) (a .o .now) (a .l .now) (a .n) (a .operation) (a .k)) (c .before .before .operand-type .ensures) (c .before .row-by .ensures) (c .tile-of .ensures)
 
 pub operand-tile-spec : {M : Type 1} → statement M
 operand-tile-spec = tie.close (tie.spec operand-type-requires row-by-requires tile-of-requires returns)

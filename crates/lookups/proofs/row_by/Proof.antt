@@ -1,7 +1,5 @@
 -- `row_by` meets its contract: by whether there is a type.
 use borrow.Author.Needs.{needs}
-use mathlib.Core.Path.{_∙_}
-use Rattle.tiles.proofs.Rows.{no-row}
 use Rattle.lookups.proofs.row_by.Statement.{statement}
 use Rattle.lookups.proofs.row_by.Tie as tie
 
@@ -21,7 +19,7 @@ returns : tie.Need-returns
 returns c = rw (c .before .before .typed .given .1) (c .seen-row .ensures)
 
 returns-2 : tie.Need-returns-2
-returns-2 c = rw (c .before .enum-told .given .1, c .entries .ensures) no-row
+returns-2 c = rw (c .before .enum-told .given .1) (c .entries .ensures)
 
 pub row-by-spec : {M : Type 1} → statement M
 row-by-spec =

@@ -1,9 +1,10 @@
 -- `any_wrong_mask` meets its contract: no operand before k is wrong, so the rest of the operands decides.
 use Prim.Native.Nat.{_-_}
-use mathlib.Core.Path.{_≡_, refl, sym, _∙_}
+use mathlib.Core.Path.{_≡_, refl, sym, ap, _∙_}
 use native.Mathlib.Omega.{arith}
 use lib.ListN.{length, drop}
 use borrow.Author.Needs.{needs}
+use Rattle.tiles.specs.Tile.{tileRow, tileIn}
 use Rattle.rules_atomic.specs.Arm.{anyWrongMask}
 use Rattle.rules_atomic.proofs.Masks.{wrong-here, wrong-later, none-wrong}
 use Rattle.rules_atomic.proofs.any_wrong_mask.Statement.{statement}
@@ -30,16 +31,24 @@ value-type-requires c κs = search needs
 seen-row-requires : tie.Need-seen-row-requires Inv-loop μ-loop
 seen-row-requires c κs = search needs
 
-is-wrong-row-requires : tie.Need-is-wrong-row-requires Inv-loop μ-loop
-is-wrong-row-requires c κs = search needs
+tile-of-requires : tie.Need-tile-of-requires Inv-loop μ-loop
+tile-of-requires c κs = search needs
+
+is-wrong-mask-requires : tie.Need-is-wrong-mask-requires Inv-loop μ-loop
+is-wrong-mask-requires c κs = search needs
+
+-- the tile at hand is that of the operand
+mask : (c : tie.After-tile-of Inv-loop μ-loop) → let s = c .before .before .before .before .before .before .before .before .before .before .args in tileIn (s .t .now) (s .sheet .now) (s .n) (c .before .before .value-type .result) ≡ c .tile-of .result
+unfolding tileIn
+mask c = sym (c .tile-of .ensures ∙ ap tileRow (c .before .seen-row .ensures))
 
 returns : tie.Need-returns Inv-loop μ-loop
 returns c =
-    let l = c .before .before .before .before .before .before in
+    let l = c .before .before .before .before .before .before .before in
     let s = l .before .before .before .before .before .args in
     sym (l .loop .inv
-    ∙ wrong-here (s .t .now) (s .v .now) (s .sheet .now) (s .n) (s .val) (s .operands .now) (l .loop .k) (c .before .before .before .before .before .loop-test .taken)
-    (rw (← c .before .before .before .value-type .ensures, ← c .before .before .seen-row .ensures) (sym (c .before .is-wrong-row .ensures) ∙ c .if1 .taken)))
+    ∙ wrong-here (s .t .now) (s .v .now) (s .sheet .now) (s .n) (s .val) (s .operands .now) (l .loop .k) (c .before .before .before .before .before .before .loop-test .taken)
+    (rw (← c .before .before .before .before .value-type .ensures, mask (c .before .before)) (sym (c .before .is-wrong-mask .ensures) ∙ c .if1 .taken)))
 
 add-k : tie.Need-add-k Inv-loop μ-loop
 add-k c = omega arith
@@ -49,11 +58,11 @@ loop-less c = omega arith
 
 loop-again : tie.Need-loop-again Inv-loop μ-loop
 loop-again c =
-    let l = c .before .before .before .before .before .before in
+    let l = c .before .before .before .before .before .before .before in
     let s = l .before .before .before .before .before .args in
     l .loop .inv
-    ∙ wrong-later (s .t .now) (s .v .now) (s .sheet .now) (s .n) (s .val) (s .operands .now) (l .loop .k) (c .before .before .before .before .before .loop-test .taken)
-    (rw (← c .before .before .before .value-type .ensures, ← c .before .before .seen-row .ensures) (sym (c .before .is-wrong-row .ensures) ∙ c .if1 .left))
+    ∙ wrong-later (s .t .now) (s .v .now) (s .sheet .now) (s .n) (s .val) (s .operands .now) (l .loop .k) (c .before .before .before .before .before .before .loop-test .taken)
+    (rw (← c .before .before .before .before .value-type .ensures, mask (c .before .before)) (sym (c .before .is-wrong-mask .ensures) ∙ c .if1 .left))
 
 returns-2 : tie.Need-returns-2 Inv-loop μ-loop
 returns-2 c =
@@ -73,7 +82,8 @@ any-wrong-mask-spec =
     shared-slice-read-value-type
     value-type-requires
     seen-row-requires
-    is-wrong-row-requires
+    tile-of-requires
+    is-wrong-mask-requires
     returns
     add-k
     loop-less

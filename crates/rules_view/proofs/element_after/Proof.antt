@@ -1,5 +1,4 @@
 -- `element_after` meets its contract: by whether the axis is sparse.
-use borrow.Author.Needs.{needs}
 use Rattle.rules_view.specs.View.{elementAfter}
 use Rattle.rules_view.proofs.element_after.Statement.{statement}
 use Rattle.rules_view.proofs.element_after.Tie as tie
@@ -8,12 +7,9 @@ returns : tie.Need-returns
 unfolding elementAfter
 returns c = rw (c .if1 .taken)
 
-kind-of-requires : tie.Need-kind-of-requires
-kind-of-requires c κs = search needs
-
 returns-2 : tie.Need-returns-2
 unfolding elementAfter
-returns-2 c = rw (c .before .if1 .left, c .kind-of .ensures)
+returns-2 c = rw (c .if1 .left)
 
 pub element-after-spec : {M : Type 1} → statement M
-element-after-spec = tie.close (tie.spec returns kind-of-requires returns-2)
+element-after-spec = tie.close (tie.spec returns returns-2)

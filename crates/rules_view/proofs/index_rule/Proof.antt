@@ -2,10 +2,9 @@
 use mathlib.Core.Path.{_≡_, sym, ap, _∙_}
 use mathlib.Core.Bool.{false, not}
 use borrow.Author.Tests.{eq-eqb, ne-eqb}
-use Rattle.tiles.specs.Tile.{tileRow, isTile, isIntegers}
-use Rattle.tiles.specs.Rules.{isAxisIndex}
+use Rattle.tiles.specs.Tile.{isTile, isIntegers}
 use Rattle.lookups.proofs.Arms.{fails, passes}
-use Rattle.rules_view.specs.View.{isOtherKind, indexRule}
+use Rattle.rules_view.specs.View.{indexRule}
 use borrow.Author.Needs.{needs}
 use Rattle.rules_view.proofs.index_rule.Statement.{statement}
 use Rattle.rules_view.proofs.index_rule.Tie as tie
@@ -13,10 +12,10 @@ use Rattle.rules_view.proofs.index_rule.Tie as tie
 is-tile-requires : tie.Need-is-tile-requires
 is-tile-requires c κs = search needs
 
-past-1 : (c : tie.Else1) → not (isTile (tileRow (c .before .before .before .args .row .now))) ≡ false
+past-1 : (c : tie.Else1) → not (isTile (c .before .before .args .index)) ≡ false
 past-1 c = ap not (sym (c .before .is-tile .ensures)) ∙ c .if1 .left
 
-past-2 : (c : tie.Else2) → not (isIntegers (tileRow (c .before .before .before .before .before .args .row .now))) ≡ false
+past-2 : (c : tie.Else2) → not (isIntegers (c .before .before .before .before .args .index)) ≡ false
 past-2 c = ap not (sym (c .before .is-integers .ensures)) ∙ c .if2 .left
 
 returns : tie.Need-returns
@@ -31,65 +30,49 @@ unfolding indexRule
 returns-2 c =
     sym (passes _ _ (past-1 (c .before .before)) ∙ fails _ _ (ap not (sym (c .before .is-integers .ensures)) ∙ c .if2 .taken))
 
-tile-of-requires : tie.Need-tile-of-requires
-tile-of-requires c κs = search needs
-
 is-axis-index-requires : tie.Need-is-axis-index-requires
 is-axis-index-requires c κs = search needs
-
-asked-axis : (c : tie.After-is-axis-index) →
-    let s = c .before .before .before .before .before .before .before .before .args in
-    c .is-axis-index .result ≡ isAxisIndex (tileRow (s .row .now)) (s .view) (s .axis)
-asked-axis c = c .is-axis-index .ensures ∙ rw (c .before .tile-of .ensures)
 
 returns-3 : tie.Need-returns-3
 unfolding indexRule
 returns-3 c =
-    let e2 = c .before .before .before .before in
-    rw (c .before .before .before .if3 .taken)
-    (sym (passes _ _ (past-1 (e2 .before .before)) ∙ passes _ _ (past-2 e2) ∙ fails _ _ (ap not (sym (asked-axis (c .before))) ∙ c .if4 .taken)))
+    let e2 = c .before .before .before in
+    rw (c .before .before .if3 .taken)
+    (sym (passes _ _ (past-1 (e2 .before .before)) ∙ passes _ _ (past-2 e2) ∙ fails _ _ (ap not (sym (c .before .is-axis-index .ensures)) ∙ c .if4 .taken)))
 
 returns-4 : tie.Need-returns-4
 unfolding indexRule
 returns-4 c =
-    let e2 = c .before .before .before .before in
-    rw (c .before .before .before .if3 .taken)
-    (sym (passes _ _ (past-1 (e2 .before .before)) ∙ passes _ _ (past-2 e2) ∙ passes _ _ (ap not (sym (asked-axis (c .before))) ∙ c .if4 .left)))
+    let e2 = c .before .before .before in
+    rw (c .before .before .if3 .taken)
+    (sym (passes _ _ (past-1 (e2 .before .before)) ∙ passes _ _ (past-2 e2) ∙ passes _ _ (ap not (sym (c .before .is-axis-index .ensures)) ∙ c .if4 .left)))
 
-rank-of-requires : tie.Need-rank-of-requires
-rank-of-requires c κs = search needs
+rank-requires : tie.Need-rank-requires
+rank-requires c κs = search needs
 
 returns-5 : tie.Need-returns-5
 unfolding indexRule
 returns-5 c =
     let e2 = c .before .before .before in
-    rw (c .before .before .if3 .left, ← c .before .rank-of .ensures)
+    rw (c .before .before .if3 .left, ← c .before .rank .ensures)
     (sym (passes _ _ (past-1 (e2 .before .before)) ∙ passes _ _ (past-2 e2) ∙ fails _ _ (ap not (ne-eqb _ _ (c .if5 .taken)))))
-
-kind-of-requires : tie.Need-kind-of-requires
-kind-of-requires c κs = search needs
 
 is-other-kind-requires : tie.Need-is-other-kind-requires
 is-other-kind-requires c κs = search needs
 
-asked-kind : (c : tie.After-is-other-kind) →
-    let s = c .before .before .before .before .before .before .before .before .before .before .args in
-    c .is-other-kind .result ≡ isOtherKind (s .element) (tileRow (s .row .now) .kind)
-asked-kind c = c .is-other-kind .ensures ∙ rw (c .before .kind-of .ensures)
-
 returns-6 : tie.Need-returns-6
 unfolding indexRule
 returns-6 c =
-    let e2 = c .before .before .before .before .before .before in
-    rw (c .before .before .before .before .before .if3 .left, ← c .before .before .before .before .rank-of .ensures)
-    (sym (passes _ _ (past-1 (e2 .before .before)) ∙ passes _ _ (past-2 e2) ∙ passes _ _ (ap not (eq-eqb _ _ (c .before .before .before .if5 .left))) ∙ fails _ _ (sym (asked-kind (c .before)) ∙ c .if6 .taken)))
+    let e2 = c .before .before .before .before .before in
+    rw (c .before .before .before .before .if3 .left, ← c .before .before .before .rank .ensures)
+    (sym (passes _ _ (past-1 (e2 .before .before)) ∙ passes _ _ (past-2 e2) ∙ passes _ _ (ap not (eq-eqb _ _ (c .before .before .if5 .left))) ∙ fails _ _ (sym (c .before .is-other-kind .ensures) ∙ c .if6 .taken)))
 
 returns-7 : tie.Need-returns-7
 unfolding indexRule
 returns-7 c =
-    let e2 = c .before .before .before .before .before .before in
-    rw (c .before .before .before .before .before .if3 .left, ← c .before .before .before .before .rank-of .ensures)
-    (sym (passes _ _ (past-1 (e2 .before .before)) ∙ passes _ _ (past-2 e2) ∙ passes _ _ (ap not (eq-eqb _ _ (c .before .before .before .if5 .left))) ∙ passes _ _ (sym (asked-kind (c .before)) ∙ c .if6 .left)))
+    let e2 = c .before .before .before .before .before in
+    rw (c .before .before .before .before .if3 .left, ← c .before .before .before .rank .ensures)
+    (sym (passes _ _ (past-1 (e2 .before .before)) ∙ passes _ _ (past-2 e2) ∙ passes _ _ (ap not (eq-eqb _ _ (c .before .before .if5 .left))) ∙ passes _ _ (sym (c .before .is-other-kind .ensures) ∙ c .if6 .left)))
 
 pub index-rule-spec : {M : Type 1} → statement M
 index-rule-spec =
@@ -99,13 +82,11 @@ index-rule-spec =
     returns
     is-integers-requires
     returns-2
-    tile-of-requires
     is-axis-index-requires
     returns-3
     returns-4
-    rank-of-requires
+    rank-requires
     returns-5
-    kind-of-requires
     is-other-kind-requires
     returns-6
     returns-7)

@@ -5,9 +5,10 @@ use mathlib.Core.Path.{_≡_, sym, _∙_}
 use borrow.Author.Needs.{needs}
 use borrow.Author.Tests.{not-true, not-false}
 use Rattle.cells.specs.Lists.{from}
-use Rattle.tiles.specs.Tile.{tileRow, rankOf}
+use Rattle.tiles.specs.Tile.{rankOf}
 use Rattle.tiles.proofs.Dims.{rank-is}
-use Rattle.lookups.specs.Typed.{operandTileIn}
+use Rattle.lookups.specs.Typed.{operandTypeIn, operandTileIn}
+use Rattle.lookups.proofs.Rows.{made}
 use Rattle.rules_view.specs.View.{indexStart, elementAfter, orElse, indicesFrom, isSparseAxis, indicesRule}
 use Rattle.rules_view.proofs.Indices.{stops, goes, start-small, turn, turns-end, all-left}
 use Rattle.rules_view.proofs.indices_rule.Statement.{statement}
@@ -52,13 +53,19 @@ operand-type-requires c κs = search needs
 row-by-requires : tie.Need-row-by-requires Inv-loop μ-loop
 row-by-requires c κs = search needs
 
--- the cells at hand are the tile of the axis's operand
-seen : (c : tie.After-row-by Inv-loop μ-loop) →
-    let at = c .before .before .before in
+tile-of-requires : tie.Need-tile-of-requires Inv-loop μ-loop
+tile-of-requires c κs = search needs
+
+-- the tile at hand is that of the axis's operand
+seen : (c : tie.After-tile-of Inv-loop μ-loop) →
+    let at = c .before .before .before .before in
     let s = at .before .before .before .before .before .before .before .before .args in
-    tileRow (c .row-by .result .now) ≡ operandTileIn (s .t .now) (s .v .now) (s .o .now) (s .l .now) (s .sheet .now) (s .n) (s .operation) (at .before .before .index-start .result + at .loop .axis)
+    c .tile-of .result ≡ operandTileIn (s .t .now) (s .v .now) (s .o .now) (s .l .now) (s .sheet .now) (s .n) (s .operation) (at .before .before .index-start .result + at .loop .axis)
 unfolding operandTileIn
-seen c = c .row-by .ensures ∙ rw (c .before .operand-type .ensures)
+seen c =
+    let at = c .before .before .before .before in
+    let s = at .before .before .before .before .before .before .before .before .args in
+    made (s .t .now) (s .sheet .now) (s .n) (c .before .before .operand-type .result) (operandTypeIn (s .v .now) (s .o .now) (s .l .now) (s .n) (s .operation) (at .before .before .index-start .result + at .loop .axis)) (c .before .before .operand-type .ensures) (c .before .row-by .ensures) (c .tile-of .ensures)
 
 is-sparse-axis-requires : tie.Need-is-sparse-axis-requires Inv-loop μ-loop
 is-sparse-axis-requires c κs = search needs
@@ -71,16 +78,16 @@ holds-requires c κs = search needs
 
 -- the rule where the axis at hand is asked: what it answers, and the axes behind it
 turned : (c : tie.After-index-rule Inv-loop μ-loop) →
-    let at = c .before .before .before .before .before in
+    let at = c .before .before .before .before .before .before in
     let s = at .before .before .before .before .before .before .before .before .args in
     indicesRule (s .t .now) (s .v .now) (s .o .now) (s .l .now) (s .sheet .now) (s .n) (s .operation) (s .opcode) (s .id) (s .view)
     ≡ orElse (c .index-rule .result)
-    (indicesFrom (λ k. operandTileIn (s .t .now) (s .v .now) (s .o .now) (s .l .now) (s .sheet .now) (s .n) (s .operation) (at .before .before .index-start .result + k)) (s .view) (isSparseAxis (s .t .now) (s .n) (s .id)) (from (at .loop .axis + 1) (at .before .rank .result - (at .loop .axis + 1))) (elementAfter (tileRow (c .before .before .row-by .result .now)) (c .before .is-sparse-axis .result) (at .loop .element)))
+    (indicesFrom (λ k. operandTileIn (s .t .now) (s .v .now) (s .o .now) (s .l .now) (s .sheet .now) (s .n) (s .operation) (at .before .before .index-start .result + k)) (s .view) (isSparseAxis (s .t .now) (s .n) (s .id)) (from (at .loop .axis + 1) (at .before .rank .result - (at .loop .axis + 1))) (elementAfter (c .before .before .tile-of .result) (c .before .is-sparse-axis .result) (at .loop .element)))
 turned c =
-    let at = c .before .before .before .before .before in
+    let at = c .before .before .before .before .before .before in
     let s = at .before .before .before .before .before .before .before .before .args in
     at .loop .inv .3
-    ∙ turn (λ k. operandTileIn (s .t .now) (s .v .now) (s .o .now) (s .l .now) (s .sheet .now) (s .n) (s .operation) (at .before .before .index-start .result + k)) (s .view) (isSparseAxis (s .t .now) (s .n) (s .id)) (at .loop .axis) (at .before .rank .result) (at .loop .element) (c .before .before .before .before .loop-test .taken)
+    ∙ turn (λ k. operandTileIn (s .t .now) (s .v .now) (s .o .now) (s .l .now) (s .sheet .now) (s .n) (s .operation) (at .before .before .index-start .result + k)) (s .view) (isSparseAxis (s .t .now) (s .n) (s .id)) (at .loop .axis) (at .before .rank .result) (at .loop .element) (c .before .before .before .before .before .loop-test .taken)
     ∙ rw (← seen (c .before .before), ← c .before .is-sparse-axis .ensures, ← c .index-rule .ensures)
 
 returns : tie.Need-returns Inv-loop μ-loop
@@ -92,18 +99,18 @@ element-after-requires : tie.Need-element-after-requires Inv-loop μ-loop
 element-after-requires c κs = search needs
 
 add-axis : tie.Need-add-axis Inv-loop μ-loop
-add-axis c = omega (arith, c .before .before .before .before .before .before .before .before .loop .inv .1, counts (c .before .before .before .before .before .before .before .before .before .before .before .before .before .before .before .before))
+add-axis c = omega (arith, c .before .before .before .before .before .before .before .before .before .loop .inv .1, counts (c .before .before .before .before .before .before .before .before .before .before .before .before .before .before .before .before .before))
 
 loop-less : tie.Need-loop-less Inv-loop μ-loop
-loop-less c = omega (arith, c .before .before .before .before .before .before .before .loop-test .taken)
+loop-less c = omega (arith, c .before .before .before .before .before .before .before .before .loop-test .taken)
 
 loop-again : tie.Need-loop-again Inv-loop μ-loop
 loop-again c =
     let asked = c .before .before .before in
-    let l = c .before .before .before .before .before .before .before .before .loop in (
+    let l = c .before .before .before .before .before .before .before .before .before .loop in (
       l .inv .0,
       l .inv .1,
-      omega (arith, c .before .before .before .before .before .before .before .loop-test .taken),
+      omega (arith, c .before .before .before .before .before .before .before .before .loop-test .taken),
       turned asked ∙ goes (asked .index-rule .result) _ (sym (c .before .before .holds .ensures) ∙ not-false _ (c .before .if1 .left)) ∙ rw (c .element-after .ensures),
     )
 
@@ -125,6 +132,7 @@ indices-rule-spec =
     add-operand-type
     operand-type-requires
     row-by-requires
+    tile-of-requires
     is-sparse-axis-requires
     index-rule-requires
     holds-requires

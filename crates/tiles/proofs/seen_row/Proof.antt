@@ -3,9 +3,9 @@ use borrow.Author.Needs.{needs}
 use mathlib.Core.Path.{_≡_, sym, _∙_}
 use mathlib.Core.Bool.{Bool, true, false, cond, _&&_, _||_}
 use lib.Dec.{eqb}
-use lib.ListN.{getD}
-use Rattle.tiles.specs.Tile.{noTile, rowTile, tileIn}
-use Rattle.tiles.proofs.Rows.{tile-by, no-row}
+use mathlib.Core.List.{[]}
+use Rattle.tiles.specs.Tile.{seenIn}
+use Rattle.tiles.proofs.Rows.{seen-by}
 use Rattle.tiles.proofs.seen_row.Statement.{statement}
 use Rattle.tiles.proofs.seen_row.Tie as tie
 
@@ -34,11 +34,11 @@ seen c =
 read : (c : tie.After-tile-through) →
     let a = c .before .before .before .before .before .before .args in
     let row = c .before .before .before .type-row .result .now in
-    tileIn (a .t .now) (a .sheet .now) (a .n) (a .id) ≡ cond (seen c) (rowTile (getD row 0 0) row) noTile
+    seenIn (a .t .now) (a .sheet .now) (a .n) (a .id) ≡ cond (seen c) row []
 read c =
     let a = c .before .before .before .before .before .before .args in
     rw (c .tile-through .ensures, c .before .at-u642 .ensures, c .before .before .at-u64 .ensures, c .before .before .before .type-row .ensures)
-    (tile-by (a .t .now) (a .sheet .now) (a .n) (a .id))
+    (seen-by (a .t .now) (a .sheet .now) (a .n) (a .id))
 
 returns : tie.Need-returns
 returns c =
@@ -48,7 +48,7 @@ returns c =
 returns-2 : tie.Need-returns-2
 returns-2 c =
     let e : seen (c .before .before) ≡ false = c .before .if1 .left in
-    rw (c .entries .ensures) (no-row ∙ sym (read (c .before .before) ∙ rw e))
+    c .entries .ensures ∙ sym (read (c .before .before) ∙ rw e)
 
 pub seen-row-spec : {M : Type 1} → statement M
 seen-row-spec =

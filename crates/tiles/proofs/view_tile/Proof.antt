@@ -1,11 +1,9 @@
 -- `view_tile` meets its contract: by the form.
 use borrow.Author.Needs.{needs}
-use mathlib.Core.Path.{_≡_, _∙_}
-use lib.ListN.{getD}
-use Prim.Native.Nat.{ℕ}
+use mathlib.Core.Path.{_≡_, ap, _∙_}
 use Rattle.tables.specs.Layout.{formIn}
-use Rattle.tiles.specs.Tile.{rowTile, rowIn, viewIn}
-use Rattle.tiles.proofs.Rows.{form-at, row-in}
+use Rattle.tiles.specs.Tile.{rowTile, viewIn}
+use Rattle.tiles.proofs.Rows.{form-at}
 use Rattle.tiles.proofs.view_tile.Statement.{statement}
 use Rattle.tiles.proofs.view_tile.Tie as tie
 
@@ -32,7 +30,7 @@ unfolding viewIn
 returns c =
     let a = c .before .before .before .before .before .args in
     rw (← form (c .before .before), c .before .if1 .taken)
-    (c .row-tile .ensures ∙ rw (c .before .before .before .type-row .ensures) (row-in (a .t .now) (a .n) (a .id) 1))
+    (c .row-tile .ensures ∙ ap (rowTile 1) (c .before .before .before .type-row .ensures))
 
 returns-2 : tie.Need-returns-2
 unfolding viewIn
