@@ -5,9 +5,10 @@ use mathlib.Core.Path.{_≡_, refl, ap, sym, _∙_, subst}
 use mathlib.Core.List.{List, [], _∷_}
 use lib.ListN.{length, getD, drop, length-take}
 use Rattle.cells.specs.Lists.{flat}
+use Rattle.cells.specs.declared.Span.{Span}
 use Rattle.cells.proofs.Parts.{left-step, left-end}
-use Rattle.tables.specs.Tables.{Tables, regions, blocks, operations}
-use Rattle.tables.specs.Layout.{functionsIn}
+use Rattle.tables.specs.Tables.{Tables, regions, regionsSpan, blocks, operations}
+use Rattle.tables.specs.Layout.{regionsIn, functionsIn}
 use Rattle.tables.specs.Answer.{each}
 use Rattle.tables.specs.declared.Counts.{Counts}
 use Rattle.tables.specs.declared.Answer.{Answer}
@@ -55,6 +56,11 @@ module _ {f : ℕ → Answer} {g : ℕ → List ℕ} {xs out₀ : List ℕ} {use
               ∙ (rw (left-step xs i 0 h) at (inv .wrote));
         }
 
+-- where two ways of visiting an id meet, what is held and the next place are known by equations
+pub going-at : {f : ℕ → Answer} {g : ℕ → List ℕ} {xs out₀ out out′ : List ℕ} {used next next′ i : ℕ} → out ≡ out′ → next ≡ next′
+    → Going f g xs out₀ used out′ next′ i → Going f g xs out₀ used out next i
+going-at a b v = rw (a, b) v
+
 -- the list xs that was read is the one that the definition speaks of
 module _ (x : Tables) (d id : ℕ) {xs : List ℕ} {w : Walked} {out : List ℕ} {p : Filled} where
   pub block-visited : xs ≡ operations x id
@@ -76,6 +82,14 @@ module _ (x : Tables) (d id : ℕ) {xs : List ℕ} {w : Walked} {out : List ℕ}
   region-visited owner h e v =
       let s : suc (d - 1) ≡ d = omega (arith, h) in
       subst (λ (z : ℕ). Visited w out p (regionDepth z x owner id) (regionOrder z x id)) s (rw e at v)
+
+-- an operation whose span of regions is empty: its id is all that is written
+pub leaf-visited : (x : Tables) (d id : ℕ) {s : Span} {out : List ℕ} {m : ℕ} {p : Filled} → filled out m ≡ push p id → s ≡ regionsSpan x id → s .len ≡ 0
+    → Visited (Fine m) out p (operationDepth (regionDepth d x) x id) (operationOrder (regionOrder d x) x id)
+unfolding regionsIn
+leaf-visited x d id h e z =
+    let r : [] ≡ regions x id = rw (← e, z) in
+    operation-visited x d id h r (record { answer = refl; reached = refl })
 
 -- no depth is left: a region without blocks passes, and any other is refused
 module _ (x : Tables) (d owner id : ℕ) {xs : List ℕ} (z : d ≡ 0) (e : xs ≡ blocks x id) where

@@ -81,12 +81,18 @@ fn visit_block(
     let mut next = used;
     let mut i = 0;
     while i < operations.len() {
-        match visit_operation(o, b, r, l, n, out, next, depth, operations[i]) {
-            Walked::Fine(m) => {
-                next = m;
-            }
-            Walked::Deep(k) => {
-                return Walked::Deep(k);
+        let operation = operations[i];
+        // Most operations have no regions, and the call would cost more than the rest of their visit.
+        if tables::regions_span(o, n, operation).len == 0 {
+            next = push_id(out, next, operation);
+        } else {
+            match visit_operation(o, b, r, l, n, out, next, depth, operation) {
+                Walked::Fine(m) => {
+                    next = m;
+                }
+                Walked::Deep(k) => {
+                    return Walked::Deep(k);
+                }
             }
         }
         i += 1;

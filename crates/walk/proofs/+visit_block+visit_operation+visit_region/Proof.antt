@@ -3,13 +3,14 @@
 use borrow.Author.Needs.{needs}
 use native.Mathlib.Omega.{arith}
 use Prim.Native.Nat.{ℕ, _+_, _-_, _*_, _<_}
-use mathlib.Core.Path.{_≡_, refl, _∙_}
+use mathlib.Core.Path.{_≡_, refl, ap, _∙_}
+use mathlib.Core.Logic.{⊎-elim}
 use mathlib.Core.List.{List}
 use lib.ListN.{length}
 use Rattle.tables.specs.Tables.{Tables, nest}
 use Rattle.walk.specs.Order.{operationOrder, blockOrder, regionOrder}
 use Rattle.walk.specs.Depth.{operationDepth, blockDepth, regionDepth}
-use Rattle.walk.proofs.Visits.{Going, going-start, going-deep, going-more, going-end, block-visited, operation-visited, region-visited, region-passed, region-refused}
+use Rattle.walk.proofs.Visits.{Going, going-start, going-deep, going-more, going-at, going-end, block-visited, operation-visited, leaf-visited, region-visited, region-passed, region-refused}
 use borrow.Fn.Kinds.{In}
 use borrow.Fn.PlainCycle.{Measures, is, falls, and}
 use Rattle.walk.proofs.visit_block.Reads as visit-block
@@ -24,6 +25,7 @@ use Rattle.walk.proofs.+visit_block+visit_operation+visit_region.Lts-vi
 use Rattle.tables.proofs.blocks.Reads as blocks-reads
 use Rattle.tables.proofs.operations.Reads as operations-reads
 use Rattle.tables.proofs.regions.Reads as regions-reads
+use Rattle.tables.proofs.regions_span.Reads as regions-span-reads
 use Rattle.walk.proofs.push_id.Reads as push-id-reads
 use Rattle.walk.proofs.+visit_block+visit_operation+visit_region.{statement}
 use Rattle.walk.proofs.+visit_block+visit_operation+visit_region.Tie.{close}
@@ -74,7 +76,7 @@ visit-region-below t =
     visit-region.Pre
 
 abbrev visit-block-calls : ℕ → visit-block-lts.Claims
-visit-block-calls t = (operations-reads.Asked, operations-reads.Learnt, visit-operation-below t, visit-operation.Post)
+visit-block-calls t = (operations-reads.Asked, operations-reads.Learnt, regions-span-reads.Asked, regions-span-reads.Learnt, push-id-reads.Asked, push-id-reads.Learnt, visit-operation-below t, visit-operation.Post)
 
 abbrev visit-block-Inv-loop : visit-block-lts.InvT-loop
 visit-block-Inv-loop o b r l n out₀ used depth id operations next₀ i₀ out next i =
@@ -90,15 +92,21 @@ visit-block-operations-requires t c κs = search needs
 visit-block-loop-holds : (t : ℕ) → visit-block-lts.Need-loop-holds (visit-block-calls t) (visit-block-at t) visit-block.Post visit-block-Inv-loop visit-block-μ-loop
 visit-block-loop-holds t c = (refl, λ f. going-start _ _ _ _ _)
 
-visit-block-mul-visit-operation : (t : ℕ) → visit-block-lts.Need-mul-visit-operation (visit-block-calls t) (visit-block-at t) visit-block.Post visit-block-Inv-loop visit-block-μ-loop
-visit-block-mul-visit-operation t c = search needs
+visit-block-mul-operation : (t : ℕ) → visit-block-lts.Need-mul-operation (visit-block-calls t) (visit-block-at t) visit-block.Post visit-block-Inv-loop visit-block-μ-loop
+visit-block-mul-operation t c = search needs
 
-visit-block-shared-slice-read-visit-operation :
-    (t : ℕ) → visit-block-lts.Need-shared-slice-read-visit-operation (visit-block-calls t) (visit-block-at t) visit-block.Post visit-block-Inv-loop visit-block-μ-loop
-visit-block-shared-slice-read-visit-operation t c = search needs
+visit-block-shared-slice-read-operation :
+    (t : ℕ) → visit-block-lts.Need-shared-slice-read-operation (visit-block-calls t) (visit-block-at t) visit-block.Post visit-block-Inv-loop visit-block-μ-loop
+visit-block-shared-slice-read-operation t c = search needs
+
+visit-block-regions-span-requires : (t : ℕ) → visit-block-lts.Need-regions-span-requires (visit-block-calls t) (visit-block-at t) visit-block.Post visit-block-Inv-loop visit-block-μ-loop
+visit-block-regions-span-requires t c κs = search needs
+
+visit-block-push-id-requires : (t : ℕ) → visit-block-lts.Need-push-id-requires (visit-block-calls t) (visit-block-at t) visit-block.Post visit-block-Inv-loop visit-block-μ-loop
+visit-block-push-id-requires t c κs = search needs
 
 visit-block-visit-operation-requires : (t : ℕ) → visit-block-lts.Need-visit-operation-requires (visit-block-calls t) (visit-block-at t) visit-block.Post visit-block-Inv-loop visit-block-μ-loop
-visit-block-visit-operation-requires t c κs = (omega (arith, c .before .before .before .before .before .before .before .before .before .before .pre .0), tt)
+visit-block-visit-operation-requires t c κs = (omega (arith, c .before .before .before .before .before .before .before .before .before .before .before .before .before .pre .0), tt)
 
 visit-block-enum-known-m : (t : ℕ) → visit-block-lts.Need-enum-known-m (visit-block-calls t) (visit-block-at t) visit-block.Post visit-block-Inv-loop visit-block-μ-loop
 visit-block-enum-known-m t c = search needs
@@ -111,12 +119,12 @@ visit-block-same-length t c = search needs
 
 visit-block-returns : (t : ℕ) → visit-block-lts.Need-returns (visit-block-calls t) (visit-block-at t) visit-block.Post visit-block-Inv-loop visit-block-μ-loop
 visit-block-returns t c =
-    let a = c .before .before .before .before .before .before .before .before .before .before .before .before .before .before .before .before .args in
+    let a = c .before .before .before .before .before .before .before .before .before .before .before .before .before .before .before .before .before .before .before .args in
     let x : List ℕ → Tables = λ f. nest (a .o .now) (a .b .now) (a .r .now) f (a .l .now) (a .n) in
-    let lp = c .before .before .before .before .before .before .before .before .before .loop in
+    let lp = c .before .before .before .before .before .before .before .before .before .before .before .before .loop in
     let w = c .before .before .before .before .before .visit-operation in
-    λ f. block-visited (x f) (a .depth) (a .id) (c .before .before .before .before .before .before .before .before .before .before .operations .ensures)
-    (going-deep (lp .inv .1 f) (c .before .before .before .before .before .before .before .before .loop-test .taken) (w .ensures f) (c .before .k .given .1))
+    λ f. block-visited (x f) (a .depth) (a .id) (c .before .before .before .before .before .before .before .before .before .before .before .before .before .operations .ensures)
+    (going-deep (lp .inv .1 f) (c .before .before .before .before .before .before .before .before .before .before .before .loop-test .taken) (w .ensures f) (c .before .k .given .1))
 
 visit-block-add-i : (t : ℕ) → visit-block-lts.Need-add-i (visit-block-calls t) (visit-block-at t) visit-block.Post visit-block-Inv-loop visit-block-μ-loop
 visit-block-add-i t c = search needs
@@ -126,9 +134,14 @@ visit-block-loop-less t c = search needs
 
 visit-block-loop-again : (t : ℕ) → visit-block-lts.Need-loop-again (visit-block-calls t) (visit-block-at t) visit-block.Post visit-block-Inv-loop visit-block-μ-loop
 visit-block-loop-again t c =
-    let lp = c .before .before .before .before .before .before .before .before .before .loop in
-    let w = c .before .before .before .before .before .visit-operation in
-    (w .kept .1 .1 .1 .1 .1 .0 ∙ lp .inv .0, λ f. going-more (lp .inv .1 f) (c .before .before .before .before .before .before .before .before .loop-test .taken) (w .ensures f) (c .before .m .given .1))
+    let a = c .before .before .before .before .before .before .before .before .before .before .before .before .args in
+    let x : List ℕ → Tables = λ f. nest (a .o .now) (a .b .now) (a .r .now) f (a .l .now) (a .n) in
+    let lp = c .before .before .before .before .before .loop in
+    let h = c .before .before .before .before .loop-test .taken in
+    ⊎-elim
+    (λ w. (ap length (w .5) ∙ w .2 .kept .0 ∙ lp .inv .0, λ f. going-at (w .5) (w .6) (going-more (lp .inv .1 f) h (leaf-visited (x f) (a .depth) _ (w .2 .ensures) (c .before .before .regions-span .ensures) (w .0 .taken)) refl)))
+    (λ w. (ap length (w .8) ∙ w .2 .kept .1 .1 .1 .1 .1 .0 ∙ lp .inv .0, λ f. going-at (w .8) (w .9) (going-more (lp .inv .1 f) h (w .2 .ensures f) (w .6 .given .1))))
+    (c .if1 .came)
 
 visit-block-same-length-2 : (t : ℕ) → visit-block-lts.Need-same-length-2 (visit-block-calls t) (visit-block-at t) visit-block.Post visit-block-Inv-loop visit-block-μ-loop
 visit-block-same-length-2 t c = search needs
@@ -298,8 +311,10 @@ pub +visit-block+visit-operation+visit-region-spec : {M : Type 1} → statement 
     visit-block-μ-loop
     (visit-block-operations-requires t)
     (visit-block-loop-holds t)
-    (visit-block-mul-visit-operation t)
-    (visit-block-shared-slice-read-visit-operation t)
+    (visit-block-mul-operation t)
+    (visit-block-shared-slice-read-operation t)
+    (visit-block-regions-span-requires t)
+    (visit-block-push-id-requires t)
     (visit-block-visit-operation-requires t)
     (visit-block-enum-known-m t)
     (visit-block-enum-known-k t)
