@@ -99,13 +99,31 @@ fn dims_of(row: &[u64]) -> [i64; 8]
     dims
 }
 
-// The kind and dims of a type's cells, as a tile of this form.
-fn row_tile(form: u64, row: &[u64]) -> Tile
+// The kind and dims of cells that are too few for a type, as a tile of this form; none at all are no tile.
+fn cut_tile(form: u64, row: &[u64]) -> Tile
     ensures { λ r. ⌜ r ≡ rowTile form (now (row .entry)) ⌝ }
 {
     let kind = cells::at_u64(row, 1);
     let wanted = cells::least(cells::at_u64(row, 5), tables::MAX_RANK);
     let rank = cells::least(wanted, cells::rest(row.len() as u64, 8));
+    let dims = dims_of(row);
+    Tile {
+        form,
+        kind,
+        rank,
+        dims,
+    }
+}
+
+// The kind and dims of a type's cells, as a tile of this form. Whole cells are the common case, read without a test each.
+fn row_tile(form: u64, row: &[u64]) -> Tile
+    ensures { λ r. ⌜ r ≡ rowTile form (now (row .entry)) ⌝ }
+{
+    if row.len() < 16 {
+        return cut_tile(form, row);
+    }
+    let kind = row[1];
+    let rank = cells::least(row[5], tables::MAX_RANK);
     let dims = dims_of(row);
     Tile {
         form,
