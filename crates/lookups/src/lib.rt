@@ -182,10 +182,6 @@ pub fn segment(o: &[u32], a: &[u32], l: &[u64], n: Counts, operation: u64, posit
 pub fn flushes(o: &[u32], a: &[u32], l: &[u64], n: Counts, operation: u64) -> bool
     ensures { λ r. ⌜ r ≡ flushesIn (now (o .entry)) (now (a .entry)) (now (l .entry)) n operation ⌝ }
 {
-    // Every operation is asked, and many have no attribute.
-    if tables::attributes(o, n, operation).len == 0 {
-        return false;
-    }
     match find(
         o,
         a,

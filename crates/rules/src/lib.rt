@@ -107,6 +107,10 @@ pub fn verify_operation(
     if let Answer::Refused(why) = judged(operation, rule) {
         return Answer::Refused(why);
     }
+    // Many operations have no attribute, so none that flushes: they are not handed on.
+    if tables::attributes(o, n, operation).len == 0 {
+        return Answer::Accepted;
+    }
     let closing = rules_small::flushed(t, v, o, a, l, sheet, n, operation);
     judged(operation, closing)
 }
