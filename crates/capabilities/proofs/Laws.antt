@@ -17,7 +17,7 @@ use Rattle.requirements.specs.declared.Met.the-variants.{Yes, VersionLow, Archi
 use Rattle.requirements.proofs.Laws.{met-later}
 use Rattle.capabilities.specs.Ask.{ask, answered, operationAsks, capabilities}
 use Rattle.capabilities.specs.Part.{attributeAsks, operandAsks, resultAsks}
-use Rattle.capabilities.proofs.Each.{both-accept, then-accepts, each-accepts}
+use Rattle.tables.proofs.Each.{both-accept, then-accepts, each-accepts}
 
 answered-yes : (i f : ℕ) (m : Met) → answered i f m ≡ Accepted → m ≡ Yes
 answered-yes i f Yes e = refl

@@ -1,4 +1,3 @@
-pub mod Each
 pub mod Marks
 pub mod Row
 pub mod Told

@@ -1,24 +1,15 @@
--- Numbers in a row: how many and which; and no attribute's row, as cells of 32 bits give it, is past 64 bits. Assumes nothing.
-use Prim.Native.Nat.{ℕ, zero, suc, _+_, _^_, _<_}
+-- No attribute's row, as cells of 32 bits give it, is past 64 bits. Assumes nothing.
+use Prim.Native.Nat.{ℕ, _+_, _^_, _<_}
 use native.Mathlib.Omega.{arith}
-use mathlib.Core.Path.{_≡_, refl, ap, _∙_}
+use mathlib.Core.Path.{_≡_, ap}
 use mathlib.Core.Bool.{Bool, true, false, cond}
 use mathlib.Core.List.{List}
 use lib.Dec.{ltb}
-use lib.ListN.{length, getD}
+use lib.ListN.{getD}
 use Rattle.cells.specs.Cell.{spanAt}
-use Rattle.cells.specs.Lists.{from}
 use Rattle.cells.specs.declared.Span.{Span}
 use Rattle.tables.specs.Layout.{attributesSpanIn, attributesIn}
 use Rattle.tables.specs.declared.Counts.{Counts}
-
-pub from-length : (s n : ℕ) → length (from s n) ≡ n
-from-length s zero = refl
-from-length s (suc n) = ap suc (from-length (suc s) n)
-
-pub from-at : (s n k : ℕ) → k < n → getD (from s n) k 0 ≡ s + k
-from-at s (suc n) zero h = omega arith
-from-at s (suc n) (suc k) h = from-at (suc s) n k (omega arith) ∙ omega arith
 
 -- a span out of cells of 32 bits
 module _ (o : List ℕ) (narrow : (j : ℕ) → getD o j 0 < 2 ^ 32) where

@@ -1,15 +1,17 @@
 -- Going along a list by an index: the start, a step and the end of what is left; the same for the entries of a span; what a write
--- before or behind leaves; and a list that is copied from the front. Over the element type where no number is read. Assumes nothing.
+-- before or behind leaves; a list that is copied from the front; and numbers in a row. Over the element type where no number is read. Assumes
+-- nothing.
 use mathlib.Core.Path.{_≡_, refl, sym, ap, _∙_}
 use mathlib.Core.List.{List, [], _∷_, _++_, append-assoc, append-nil}
 use mathlib.Core.Logic.{_⊎_, ⊎-elim}
-use Prim.Native.Nat.{ℕ, _+_, _-_, _≤_, _<_}
+use Prim.Native.Nat.{ℕ, zero, suc, _+_, _-_, _≤_, _<_}
 use native.Mathlib.Numerals.{add-one}
 use native.Mathlib.Omega.{arith}
 use borrow.Author.Fill.{fill-none, fill-more}
 use lib.ListN.{length, getD, set, take, drop, replicate, length-set, length-take, length-drop, drop-of-length-le}
 use lib.Seq.{drop-cons, take-suc, take-all, take-length, drop-length, length-take-le, getD-take, getD-drop, set-at, take-set-le, drop-set-lt, drop-set-add}
 use Rattle.cells.specs.Cell.{entriesOf, copied}
+use Rattle.cells.specs.Lists.{from}
 use Rattle.cells.specs.declared.Span.{Span}
 
 -- what is left of a list from i on, and what was passed
@@ -102,3 +104,12 @@ module _ (from old : List ℕ) (i : ℕ) (to : List ℕ) (inv : Copied from old 
   copy-full h =
       let e : i ≡ length old = omega arith in
       inv .3 ∙ rw (e, drop-length old, drop-of-length-le old {i = length from} (omega arith))
+
+-- numbers in a row: how many, and which
+pub from-length : (s n : ℕ) → length (from s n) ≡ n
+from-length s zero = refl
+from-length s (suc n) = ap suc (from-length (suc s) n)
+
+pub from-at : (s n k : ℕ) → k < n → getD (from s n) k 0 ≡ s + k
+from-at s (suc n) zero h = omega arith
+from-at s (suc n) (suc k) h = from-at (suc s) n k (omega arith) ∙ omega arith

@@ -10,8 +10,9 @@ use Rattle.tables.specs.Tables.{attributes}
 use Rattle.tables.specs.declared.Answer.{Answer}
 use Rattle.capabilities.specs.Ask.{ask}
 use Rattle.capabilities.specs.Part.{ofAttributes, attributeAsks}
-use Rattle.capabilities.proofs.Each.{EachLeft, each-start, each-step, each-stop, each-end}
-use Rattle.capabilities.proofs.Row.{from-length, from-at, attribute-fits}
+use Rattle.tables.proofs.Each.{EachLeft, each-start, each-step, each-stop, each-end}
+use Rattle.cells.proofs.Parts.{from-length, from-at}
+use Rattle.capabilities.proofs.Row.{attribute-fits}
 use borrow.Author.Needs.{needs}
 use Rattle.capabilities.proofs.ask_attributes.Statement.{statement}
 use Rattle.capabilities.proofs.ask_attributes.Tie as tie

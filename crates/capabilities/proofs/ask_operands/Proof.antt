@@ -5,7 +5,7 @@ use mathlib.Core.Path.{_≡_, ap, _∙_}
 use Rattle.capabilities.specs.Ask.{ask, kindAsked}
 use lib.ListN.{length, getD}
 use Rattle.capabilities.specs.Part.{Knows, ofOperands, ofTypes, operandAsks}
-use Rattle.capabilities.proofs.Each.{EachLeft, each-start, each-step, each-stop, each-end}
+use Rattle.tables.proofs.Each.{EachLeft, each-start, each-step, each-stop, each-end}
 use borrow.Author.Needs.{needs}
 use Rattle.capabilities.proofs.ask_operands.Statement.{statement}
 use Rattle.capabilities.proofs.ask_operands.Tie as tie

@@ -7,7 +7,7 @@ use Rattle.tables.specs.Tables.{lent}
 use Rattle.capabilities.specs.Ask.{operationAsks}
 use lib.ListN.{length, getD}
 use Rattle.capabilities.specs.Part.{Knows}
-use Rattle.capabilities.proofs.Each.{EachLeft, each-start, each-step, each-stop, each-end}
+use Rattle.tables.proofs.Each.{EachLeft, each-start, each-step, each-stop, each-end}
 use borrow.Author.Needs.{needs}
 use Rattle.capabilities.proofs.ask_operations.Statement.{statement}
 use Rattle.capabilities.proofs.ask_operations.Tie as tie

@@ -4,7 +4,7 @@ use native.Mathlib.Omega.{arith}
 use mathlib.Core.Path.{_≡_}
 use lib.ListN.{length, getD}
 use Rattle.capabilities.specs.Part.{Knows, ofTypes, resultAsks}
-use Rattle.capabilities.proofs.Each.{EachLeft, each-start, each-step, each-stop, each-end}
+use Rattle.tables.proofs.Each.{EachLeft, each-start, each-step, each-stop, each-end}
 use borrow.Author.Needs.{needs}
 use Rattle.capabilities.proofs.ask_results.Statement.{statement}
 use Rattle.capabilities.proofs.ask_results.Tie as tie

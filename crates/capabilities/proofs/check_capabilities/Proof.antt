@@ -2,7 +2,7 @@
 use mathlib.Core.Path.{_≡_, ap, _∙_}
 use Rattle.requirements.specs.Target.{targetFeature}
 use Rattle.capabilities.specs.Ask.{ask, capabilities}
-use Rattle.capabilities.proofs.Each.{ends, goes-on}
+use Rattle.tables.proofs.Each.{ends, goes-on}
 use borrow.Author.Needs.{needs}
 use Rattle.capabilities.proofs.check_capabilities.Statement.{statement}
 use Rattle.capabilities.proofs.check_capabilities.Tie as tie

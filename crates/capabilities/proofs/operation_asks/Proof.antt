@@ -6,7 +6,7 @@ use Rattle.tables.specs.Tables.{lent, opcode, operands, resultTypes, attributes
 use Rattle.requirements.specs.Opcode.{opcodeFeature}
 use Rattle.capabilities.specs.Ask.{ask, kindAsked, attributeAsked, operationAsks}
 use Rattle.capabilities.specs.Part.{Knows, attributeAsks, operandAsks, resultAsks}
-use Rattle.capabilities.proofs.Each.{ends, goes-on}
+use Rattle.tables.proofs.Each.{ends, goes-on}
 use borrow.Author.Needs.{needs}
 use Rattle.capabilities.proofs.operation_asks.Statement.{statement}
 use Rattle.capabilities.proofs.operation_asks.Tie as tie
