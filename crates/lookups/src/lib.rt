@@ -59,11 +59,15 @@ fn is_taken(wanted: Wanted, form: u64, first: u64) -> bool
     }
 }
 
-// The first number of an attribute.
+// The first number of an attribute, read where it stands: the list of them need not be cut out for it.
 fn first_number(a: &[u32], l: &[u64], n: Counts, attribute: u64) -> u64
     ensures { λ r. ⌜ r ≡ firstIn (now (a .entry)) (now (l .entry)) n attribute ⌝ }
 {
-    cells::at_u64(tables::attribute_numbers(a, l, n, attribute), 0)
+    let span = tables::attribute_numbers_span(a, n, attribute);
+    if span.len == 0 {
+        return 0;
+    }
+    cells::at_u64(l, span.start)
 }
 
 // The attribute has this name and is as wanted.
