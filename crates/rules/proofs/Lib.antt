@@ -1,4 +1,4 @@
 pub mod Codes
-pub mod Each
+pub mod Along
 pub mod Laws
 pub mod Cards

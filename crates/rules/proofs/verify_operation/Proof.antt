@@ -7,7 +7,7 @@ use Rattle.lookups.specs.Lookup.{entryIn, flushesIn}
 use Rattle.lookups.specs.Verdict.{failIf}
 use Rattle.rules_small.specs.Rounding.{flushed}
 use Rattle.rules.specs.Operation.{armOf, armRule, judged, verifyOperation}
-use Rattle.rules.proofs.Each.{ends, goes-on}
+use Rattle.tables.proofs.Each.{ends, goes-on}
 use borrow.Author.Needs.{needs}
 use Rattle.rules.proofs.verify_operation.Statement.{statement}
 use Rattle.rules.proofs.verify_operation.Tie as tie
