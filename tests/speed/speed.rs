@@ -63,6 +63,15 @@ fn rust_rules(m: &Module, target: &TargetCapabilities) -> bool {
     everywhere(m, |i| verify_operation(m, m.op(i), target).is_ok())
 }
 
+fn listed(m: &Module) -> Vec<OpId> {
+    let mut ids = vec![];
+    everywhere(m, |i| {
+        ids.push(i);
+        true
+    });
+    ids
+}
+
 // ---- modules
 
 // Operations of every arm that pass the Rust's requirements and rules.
@@ -141,6 +150,10 @@ fn requirements_and_rules(x: &Tables) {
     let sheet = shared::sheet::of_the_crate();
     let mut ours = || bench::rules(black_box(x), 4, SM, &sheet) == ACCEPTED;
     told("operation rules", x, times([&mut || rust_rules(&m, &target), &mut ours, &mut || checked(x)]));
+    // The Rust without its walk; the bench's is in its table checks, so the ratio to read is the last.
+    let ids = listed(&m);
+    let mut rust = || ids.iter().all(|i| verify_operation(&m, m.op(*i), &target).is_ok());
+    told("rules, Rust has a list", x, times([&mut rust, &mut ours, &mut || checked(x)]));
 }
 
 // All of the Rust's functions, in the order of the full check.
