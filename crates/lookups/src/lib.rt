@@ -222,7 +222,8 @@ pub fn result_type(o: &[u32], l: &[u64], n: Counts, operation: u64) -> Typed
     Typed::By(cells::at_u64(types, 0))
 }
 
-// The cells of a type that is a tile; none where there is no type.
+// The cells of a type that is a tile; none where there is no type. An arm that asks no dims takes the tile of these by itself: it is then not
+// built whole.
 pub fn row_by<'a>(t: &'a [u64], sheet: &[u64], n: Counts, typed: Typed) -> &'a [u64]
     ensures { λ r. ⌜ now r ≡ rowBy (now (t .entry)) (now (sheet .entry)) n typed ⌝ }
 {

@@ -2,13 +2,13 @@
 use Prim.Native.Nat.{ℕ, zero, suc, _+_, _≤_, _<_}
 use native.Mathlib.Omega.{arith}
 use mathlib.Core.Path.{_≡_, refl, subst}
-use mathlib.Core.Bool.{Bool, true, false}
+use mathlib.Core.Bool.{Bool, true, false, cond}
 use mathlib.Core.List.{List, [], _∷_}
 use mathlib.Core.Logic.{⊎-elim}
 use lib.Dec.{eqb}
 use lib.ListN.{length}
 use borrow.Author.Tests.{eqb-true, eqb-false, le-ltb}
-use Rattle.cells.specs.Lists.{from}
+use Rattle.cells.specs.Lists.{from, below}
 use Rattle.cells.proofs.Parts.{from-length}
 use Rattle.cells.proofs.Rows.{lt-or-ge}
 use Rattle.tables.specs.Answer.{each}
@@ -20,7 +20,11 @@ use Rattle.tables.proofs.Each.{both-accept, then-accepts}
 use Rattle.lookups.specs.Lookup.{entryIn, flushesIn}
 use Rattle.lookups.specs.Verdict.{failIf}
 use Rattle.rules_small.specs.Rounding.{flushed}
-use Rattle.rules.specs.Operation.{armOf, armRule, judged, verifyOperation, rules, along}
+use Rattle.rules.specs.Operation.{armOf, armRule, judged, verifyOperation, rules}
+
+-- as many operations in the order of their table, or those given in theirs
+abbrev pub along : Bool → List ℕ → List ℕ
+along straight order = cond straight (below (length order)) order
 
 pub along-length : (straight : Bool) (order : List ℕ) → length (along straight order) ≡ length order
 along-length true order = from-length 0 (length order)

@@ -2,10 +2,9 @@
 -- match on the opcode, `armOf` its left sides and `armRule` its right sides, and then the closing rule. "11 | an operation rule is broken |
 -- operation, reason", "12 | a shape product leaves i64 | operation, 0".
 use Prim.Native.Nat.{ℕ}
-use mathlib.Core.Bool.{Bool, true, false, cond}
+use mathlib.Core.Bool.{cond}
 use mathlib.Core.List.{List, [], _∷_}
-use lib.ListN.{length}
-use Rattle.cells.specs.Lists.{mem, below}
+use Rattle.cells.specs.Lists.{mem}
 use Rattle.tables.specs.Tables.{Tables, opcode}
 use Rattle.tables.specs.Answer.{andThen, each}
 use Rattle.tables.specs.declared.Answer.{Answer}
@@ -81,8 +80,3 @@ verifyOperation version sheet x i =
 -- the operations given in walk order: the first refusal
 unfoldable pub rules : ℕ → List ℕ → Tables → List ℕ → Answer
 rules version sheet x order = each (verifyOperation version sheet x) order
-
--- as many operations, in the order of their table: any order accepts what this one does; or in the order given
-abbrev pub along : Bool → List ℕ → List ℕ
-along true order = below (length order)
-along false order = order

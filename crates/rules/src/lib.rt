@@ -1,10 +1,12 @@
 // Codes 11 and 12: the operation rules, arm by arm, over operations given in walk order.
 ghost use mathlib.Core.Path.{_≡_};
 ghost use mathlib.Core.List.{[]};
-ghost use lib.ListN.{getD};
+ghost use mathlib.Core.Bool.{cond};
+ghost use lib.ListN.{length, getD};
+ghost use Rattle.cells.specs.Lists.{below};
 ghost use Rattle.tables.specs.Layout.{opcodeIn};
 ghost use Rattle.tables.specs.Tables.{lent};
-ghost use Rattle.rules.specs.Operation.{armOf, armRule, judged, verifyOperation, rules, along};
+ghost use Rattle.rules.specs.Operation.{armOf, armRule, judged, verifyOperation, rules};
 use lookups::Verdict;
 use rules_atomic::ATOMIC_CAS;
 use rules_atomic::ATOMIC_RMW;
@@ -118,7 +120,7 @@ fn verify_operation(
 
 // The operation at a place of the order given, or at that of the table.
 fn operation_at(order: &[u64], straight: bool, k: u64) -> u64
-    ensures { λ r. ⌜ r ≡ getD (along straight (now (order .entry))) k 0 ⌝ }
+    ensures { λ r. ⌜ r ≡ getD (cond straight (below (length (now (order .entry)))) (now (order .entry))) k 0 ⌝ }
 {
     if !straight {
         return cells::at_u64(order, k);
@@ -142,7 +144,7 @@ fn rules_along(
     order: &[u64],
     straight: bool,
 ) -> Answer
-    ensures { λ r. ⌜ r ≡ rules version (now (sheet .entry)) (lent (now (t .entry)) (now (v .entry)) (now (o .entry)) (now (a .entry)) [] [] [] (now (l .entry)) n) (along straight (now (order .entry))) ⌝ }
+    ensures { λ r. ⌜ r ≡ rules version (now (sheet .entry)) (lent (now (t .entry)) (now (v .entry)) (now (o .entry)) (now (a .entry)) [] [] [] (now (l .entry)) n) (cond straight (below (length (now (order .entry)))) (now (order .entry))) ⌝ }
 {
     let mut k = 0;
     while k < order.len() {

@@ -5,8 +5,8 @@ use mathlib.Core.Path.{_≡_, ap, _∙_}
 use mathlib.Core.List.{[]}
 use lib.ListN.{length, getD}
 use Rattle.tables.specs.Tables.{lent}
-use Rattle.rules.specs.Operation.{verifyOperation, rules, along}
-use Rattle.rules.proofs.Along.{along-length}
+use Rattle.rules.specs.Operation.{verifyOperation, rules}
+use Rattle.rules.proofs.Along.{along, along-length}
 use Rattle.tables.proofs.Each.{EachLeft, each-start, each-step, each-stop, each-end}
 use borrow.Author.Needs.{needs}
 use Rattle.rules.proofs.rules_along.Statement.{statement}
