@@ -6,6 +6,7 @@ pub mod Operations
 pub mod Attributes
 pub mod Blocks
 pub mod Held
+pub mod Cases
 pub mod Fold
 pub mod Formed
 pub mod Ids

@@ -50,7 +50,7 @@ module _ (o : List ℕ) (m : ℕ) where
   abbrev more : List ℕ
   more = oneMore o (m * 16 + 8)
 
-  kept : (i j : ℕ) → j < 16 → (j ≡ 8 → ⊥) → getD (row 16 more i) j 0 ≡ getD (row 16 o i) j 0
+  pub kept : (i j : ℕ) → j < 16 → (j ≡ 8 → ⊥) → getD (row 16 more i) j 0 ≡ getD (row 16 o i) j 0
   kept i j l d =
       row-at 16 more i j l ∙ other-column 16 o m 8 ((getD o (m * 16 + 8) 0 + 1) % 2 ^ 32) i j (omega arith) l d
       ∙ sym (row-at 16 o i j l)

@@ -32,7 +32,7 @@ module _ (w : TypeRow) (l : length (w .dims) ≤ 8) where
   pub type-width : length (typeCells w) ≡ 16
   type-width = simp (length-take, length-append) (omega arith)
 
-  dims-back : take (length (w .dims)) (padded 8 (w .dims)) ≡ w .dims
+  pub dims-back : take (length (w .dims)) (padded 8 (w .dims)) ≡ w .dims
   dims-back = take-take (length (w .dims)) 8 (w .dims ++ replicate 8 0) l ∙ take-append-seam (w .dims) (replicate 8 0)
 
   pub type-row : TypeSaid w → TypeHeld (typeCells w)
@@ -70,11 +70,11 @@ type-tests form kind pointer padded sparse rank dims f k p d s r m =
     or-right (eqb form 0) _ (rw (lt-ltb form 7 f, lt-ltb kind 16 k, lt-ltb pointer (2 ^ 32) p, lt-ltb padded 2 d, s, le-leb rank 8 r, m))
 
 module _ (x : Tables) (i : ℕ) (h : i < x .counts .types) (r : TypeHeld (row 16 (x .t) i)) where
-  form-is : typeForm x i ≡ getD (row 16 (x .t) i) 0 0
+  pub form-is : typeForm x i ≡ getD (row 16 (x .t) i) 0 0
   unfolding formIn
   form-is = cell-is 16 (x .t) (x .counts .types) i h 0 (omega arith)
 
-  kind-is : typeKind x i ≡ getD (row 16 (x .t) i) 1 0
+  pub kind-is : typeKind x i ≡ getD (row 16 (x .t) i) 1 0
   unfolding kindIn
   kind-is = cell-is 16 (x .t) (x .counts .types) i h 1 (omega arith)
 
@@ -86,19 +86,19 @@ module _ (x : Tables) (i : ℕ) (h : i < x .counts .types) (r : TypeHeld (row 16
       by true = omega arith
       by false = rw (cell-is 16 (x .t) (x .counts .types) i h 2 (omega arith)) (r .pointer)
 
-  padded-is : typePadded x i ≡ getD (row 16 (x .t) i) 3 0
+  pub padded-is : typePadded x i ≡ getD (row 16 (x .t) i) 3 0
   unfolding paddedIn
   padded-is = cell-is 16 (x .t) (x .counts .types) i h 3 (omega arith)
 
-  sparse-is : typeSparse x i ≡ getD (row 16 (x .t) i) 4 0
+  pub sparse-is : typeSparse x i ≡ getD (row 16 (x .t) i) 4 0
   unfolding sparseIn
   sparse-is = cell-is 16 (x .t) (x .counts .types) i h 4 (omega arith)
 
-  rank-is : typeRank x i ≡ getD (row 16 (x .t) i) 5 0
+  pub rank-is : typeRank x i ≡ getD (row 16 (x .t) i) 5 0
   unfolding rankIn
   rank-is = cell-is 16 (x .t) (x .counts .types) i h 5 (omega arith)
 
-  dims-is : typeDims x i ≡ take (getD (row 16 (x .t) i) 5 0) (drop 8 (row 16 (x .t) i))
+  pub dims-is : typeDims x i ≡ take (getD (row 16 (x .t) i) 5 0) (drop 8 (row 16 (x .t) i))
   unfolding dimsIn
   dims-is = ap (λ (m : ℕ). partAt 16 (x .t) i 8 (min m 8)) rank-is ∙ sym (dims-in (x .t) i (getD (row 16 (x .t) i) 5 0) (r .rank))
 
