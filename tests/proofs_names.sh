@@ -19,7 +19,7 @@ sources = {c: (text(c, "src"), text(c, "specs") + "\n" + text(c, "proofs")) for 
 def declared(name, crate):
     n = re.escape(name)
     code, logic = sources[crate]
-    return re.search(rf"\b(fn|struct|enum|const) {n}\b", code) or re.search(rf"(?m)^\s*((abbrev|unfoldable|opaque|pub|data|record|codata) +)*{n}(?= *[:(]| +where\b| +:)", logic)
+    return re.search(rf"\b(fn|struct|enum|const) {n}\b", code) or re.search(rf"(?m)^\s*((abbrev|unfoldable|opaque|pub|data|record|codata) +)*{n}(?= *[:({{]| +where\b| +:)", logic)
 
 
 # The tables of the page that begin with what the paper says.
