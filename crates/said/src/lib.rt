@@ -1,0 +1,1 @@
+// No code: the tables hold what the lines of a text that reads say.
