@@ -1,2 +1,5 @@
 pub mod Passed
 pub mod Demands
+pub mod Seen
+pub mod Program
+pub mod OtherIds
