@@ -3,6 +3,7 @@ use Prim.Native.Nat.{ℕ, zero, suc}
 use mathlib.Core.Path.{_≡_, refl, ap, _∙_}
 use mathlib.Core.List.{List, [], _∷_, _++_, map}
 use Rattle.cells.specs.Lists.{flat}
+use Rattle.tables.specs.Sizes.{maxDepth}
 use Rattle.nesting.specs.Shape.{Shape, Visit, visit, operationVisits, operationsVisits, blockVisits, regionVisits, wholeVisits}
 use Rattle.nesting.proofs.Lists.{map-append}
 
@@ -64,9 +65,9 @@ module _ {A B : Type 0} (H : List A → List B) (s : Shape A) (s′ : Shape B) (
   pub whole-carry : wholeVisits s′ ≡ map (carry H) (wholeVisits s)
   unfolding wholeVisits
   whole-carry =
-      ap (flat (λ f. flat (regionVisits 32 s′ []) (s′ .regions f))) (c .functions)
-      ∙ flat-carry (carry H) (λ f. flat (regionVisits 32 s []) (s .regions f)) (λ f. flat (regionVisits 32 s′ []) (s′ .regions f))
+      ap (flat (λ f. flat (regionVisits maxDepth s′ []) (s′ .regions f))) (c .functions)
+      ∙ flat-carry (carry H) (λ f. flat (regionVisits maxDepth s []) (s .regions f)) (λ f. flat (regionVisits maxDepth s′ []) (s′ .regions f))
       (λ f. rw (c .regions f)
-      (flat-carry (carry H) (regionVisits 32 s []) (regionVisits 32 s′ [])
-      (λ k. ap (λ (z : List B). regionVisits 32 s′ z k) (c .nil) ∙ region-carry 32 [] k) (s .regions f)))
+      (flat-carry (carry H) (regionVisits maxDepth s []) (regionVisits maxDepth s′ [])
+      (λ k. ap (λ (z : List B). regionVisits maxDepth s′ z k) (c .nil) ∙ region-carry maxDepth [] k) (s .regions f)))
       (s .functions)

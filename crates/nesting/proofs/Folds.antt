@@ -1,8 +1,9 @@
 -- Asked on the way or one visit after the other, the answer is the same, for every way of joining answers. Assumes nothing.
-use Prim.Native.Nat.{ℕ, zero, suc}
+use Prim.Native.Nat.{ℕ, zero, suc, _-_}
 use mathlib.Core.Path.{_≡_, refl, sym, _∙_}
 use mathlib.Core.List.{List, [], _∷_, _++_}
 use Rattle.cells.specs.Lists.{flat}
+use Rattle.tables.specs.Sizes.{maxDepth}
 use Rattle.tables.specs.Tables.{Tables}
 use Rattle.nesting.specs.Shape.{Shape, Visit, operationVisits, operationsVisits, blockVisits, regionVisits, wholeVisits, first, entryVisits, entriesVisits}
 use Rattle.nesting.specs.Live.{valued, nestingOf, placed}
@@ -38,16 +39,16 @@ module _ {A B : Type 0} (w : Way B) (l : Lawful w) (ask : Visit A → B) (s : Sh
   pub fold-whole : all w ask (wholeVisits s) ≡ foldWhole w _++_ ask s
   unfolding wholeVisits foldWhole
   fold-whole =
-      all-flat w l ask (λ f. flat (regionVisits 32 s []) (s .regions f)) (λ f. all w (foldRegion w _++_ ask s 32 []) (s .regions f))
-      (λ f. all-flat w l ask (regionVisits 32 s []) (foldRegion w _++_ ask s 32 []) (fold-region 32 []) (s .regions f)) (s .functions)
+      all-flat w l ask (λ f. flat (regionVisits maxDepth s []) (s .regions f)) (λ f. all w (foldRegion w _++_ ask s maxDepth []) (s .regions f))
+      (λ f. all-flat w l ask (regionVisits maxDepth s []) (foldRegion w _++_ ask s maxDepth []) (fold-region maxDepth []) (s .regions f)) (s .functions)
 
   fold-entry : (f : ℕ) → all w ask (entryVisits s f) ≡ foldEntry w _++_ ask s f
   unfolding entryVisits foldEntry
   fold-entry f =
-      all-first w l ask (λ k. first (blockVisits (regionVisits 31 s) s []) (s .blocks k))
-      (λ k. ofFirst w (foldBlock w _++_ ask s (foldRegion w _++_ ask s 31) []) (s .blocks k))
-      (λ k. all-first w l ask (blockVisits (regionVisits 31 s) s []) (foldBlock w _++_ ask s (foldRegion w _++_ ask s 31) [])
-      (fold-block (regionVisits 31 s) (foldRegion w _++_ ask s 31) (fold-region 31) []) (s .blocks k)) (s .regions f)
+      all-first w l ask (λ k. first (blockVisits (regionVisits (maxDepth - 1) s) s []) (s .blocks k))
+      (λ k. ofFirst w (foldBlock w _++_ ask s (foldRegion w _++_ ask s (maxDepth - 1)) []) (s .blocks k))
+      (λ k. all-first w l ask (blockVisits (regionVisits (maxDepth - 1) s) s []) (foldBlock w _++_ ask s (foldRegion w _++_ ask s (maxDepth - 1)) [])
+      (fold-block (regionVisits (maxDepth - 1) s) (foldRegion w _++_ ask s (maxDepth - 1)) (fold-region (maxDepth - 1)) []) (s .blocks k)) (s .regions f)
 
   pub fold-entries : all w ask (entriesVisits s) ≡ foldEntries w _++_ ask s
   unfolding entriesVisits foldEntries

@@ -1,8 +1,9 @@
 -- Where all that becomes live fits, a stack that takes up what fits walks as plain concatenation does. Assumes nothing.
-use Prim.Native.Nat.{ℕ, zero, suc}
+use Prim.Native.Nat.{ℕ, zero, suc, _-_}
 use mathlib.Core.Path.{_≡_, refl, ap, _∙_}
 use mathlib.Core.List.{List, [], _∷_, _++_}
 use Rattle.cells.specs.Lists.{flat}
+use Rattle.tables.specs.Sizes.{maxDepth}
 use Rattle.nesting.specs.In.{In, here, later}
 use Rattle.nesting.specs.Shape.{Shape, Visit, visit, operationVisits, operationsVisits, blockVisits, regionVisits, wholeVisits, first, entryVisits, entriesVisits}
 use Rattle.nesting.specs.Fits.{FitsAt}
@@ -73,23 +74,23 @@ module _ {A B : Type 0} (fits : List A → Type 0) (grow : List A → List A →
   pub whole-grown : AllFit (wholeVisits s) → foldWhole w grow ask s ≡ foldWhole w _++_ ask s
   unfolding wholeVisits foldWhole
   whole-grown h =
-      all-agree w (λ f. all w (foldRegion w grow ask s 32 []) (s .regions f))
-      (λ f. all w (foldRegion w _++_ ask s 32 []) (s .regions f)) (s .functions)
-      (λ f m. all-agree w (foldRegion w grow ask s 32 []) (foldRegion w _++_ ask s 32 []) (s .regions f)
-      (λ k n. region-grown 32 [] k (λ u q. h u (in-flat (λ f. flat (regionVisits 32 s []) (s .regions f)) m (in-flat (regionVisits 32 s []) n q)))))
+      all-agree w (λ f. all w (foldRegion w grow ask s maxDepth []) (s .regions f))
+      (λ f. all w (foldRegion w _++_ ask s maxDepth []) (s .regions f)) (s .functions)
+      (λ f m. all-agree w (foldRegion w grow ask s maxDepth []) (foldRegion w _++_ ask s maxDepth []) (s .regions f)
+      (λ k n. region-grown maxDepth [] k (λ u q. h u (in-flat (λ f. flat (regionVisits maxDepth s []) (s .regions f)) m (in-flat (regionVisits maxDepth s []) n q)))))
 
   -- the entry walk of a function
   abbrev one : ℕ → List (Visit A)
-  one j = blockVisits (regionVisits 31 s) s [] j
+  one j = blockVisits (regionVisits (maxDepth - 1) s) s [] j
 
   first-block : (js : List ℕ) → AllFit (first one js)
-      → ofFirst w (foldBlock w grow ask s (foldRegion w grow ask s 31) []) js ≡ ofFirst w (foldBlock w _++_ ask s (foldRegion w _++_ ask s 31) []) js
+      → ofFirst w (foldBlock w grow ask s (foldRegion w grow ask s (maxDepth - 1)) []) js ≡ ofFirst w (foldBlock w _++_ ask s (foldRegion w _++_ ask s (maxDepth - 1)) []) js
   first-block [] h = refl
-  first-block (j ∷ js) h = block-grown (regionVisits 31 s) (foldRegion w grow ask s 31) (foldRegion w _++_ ask s 31) (region-grown 31) [] j h
+  first-block (j ∷ js) h = block-grown (regionVisits (maxDepth - 1) s) (foldRegion w grow ask s (maxDepth - 1)) (foldRegion w _++_ ask s (maxDepth - 1)) (region-grown (maxDepth - 1)) [] j h
 
   first-region : (ks : List ℕ) → AllFit (first (λ k. first one (s .blocks k)) ks)
-      → ofFirst w (λ k. ofFirst w (foldBlock w grow ask s (foldRegion w grow ask s 31) []) (s .blocks k)) ks
-      ≡ ofFirst w (λ k. ofFirst w (foldBlock w _++_ ask s (foldRegion w _++_ ask s 31) []) (s .blocks k)) ks
+      → ofFirst w (λ k. ofFirst w (foldBlock w grow ask s (foldRegion w grow ask s (maxDepth - 1)) []) (s .blocks k)) ks
+      ≡ ofFirst w (λ k. ofFirst w (foldBlock w _++_ ask s (foldRegion w _++_ ask s (maxDepth - 1)) []) (s .blocks k)) ks
   first-region [] h = refl
   first-region (k ∷ ks) h = first-block (s .blocks k) h
 

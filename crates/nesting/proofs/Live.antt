@@ -10,6 +10,7 @@ use lib.ListN.{length}
 use lib.Dec.{ltb}
 use borrow.Author.Tests.{ltb-true, ltb-false}
 use Rattle.cells.specs.Lists.{from, below, flat, count}
+use Rattle.tables.specs.Sizes.{maxDepth}
 use Rattle.tables.specs.Tables.{Tables, functions, regions, blocks, operations, arguments, resultTypes, claim}
 use Rattle.tables.specs.Place.{definingPlace}
 use Rattle.tables.specs.Value.{valueOf}
@@ -47,6 +48,10 @@ after s u = u .live ++ s .results (u .op)
 abbrev twice : ℕ → ℕ
 twice zero = 0
 twice (suc d) = suc (suc (twice d))
+
+-- a block and an operation at each depth
+abbrev levels : ℕ
+levels = twice maxDepth
 
 module _ {A : Type 0} (s : Shape A) (inn : (i : ℕ) → Sub (s .inner i) (s .results i)) where
   -- all that becomes live in a walk of depth e from xs
@@ -115,20 +120,20 @@ module _ {A : Type 0} (s : Shape A) (inn : (i : ℕ) → Sub (s .inner i) (s .re
       (sub-append (sub-refl live) (sub-brought (suc (suc (twice d))) (sub-single (f .listed))))
 
   -- what is live after a visit is, in order, a part of what the walk brings in all
-  whole-sub : (u : Visit A) → In u (wholeVisits s) → Sub (after s u) (brought 65 (map op (s .functions)))
+  whole-sub : (u : Visit A) → In u (wholeVisits s) → Sub (after s u) (brought (suc levels) (map op (s .functions)))
   unfolding wholeVisits
   whole-sub u h =
-      let f = from-flat (λ (i : ℕ). flat (regionVisits 32 s []) (s .regions i)) (s .functions) h in
-      let g = from-flat (regionVisits 32 s []) (s .regions (f .parent)) (f .holds) in
-      let a : Sub (after s u) (brought 64 (map block (s .blocks (g .parent)))) = region-sub 32 [] (g .parent) u (g .holds) in
-      let b : Sub (after s u) (brought 64 (kids s (op (f .parent)))) = sub-trans a (sub-brought 64 (sub-one (s .blocks) (g .listed))) in
-      let c : Sub (after s u) (flat (brings s) (opens (kids s) 65 (op (f .parent)))) =
+      let f = from-flat (λ (i : ℕ). flat (regionVisits maxDepth s []) (s .regions i)) (s .functions) h in
+      let g = from-flat (regionVisits maxDepth s []) (s .regions (f .parent)) (f .holds) in
+      let a : Sub (after s u) (brought levels (map block (s .blocks (g .parent)))) = region-sub maxDepth [] (g .parent) u (g .holds) in
+      let b : Sub (after s u) (brought levels (kids s (op (f .parent)))) = sub-trans a (sub-brought levels (sub-one (s .blocks) (g .listed))) in
+      let c : Sub (after s u) (flat (brings s) (opens (kids s) (suc levels) (op (f .parent)))) =
       sub-trans b (sub-append (sub-none (s .results (f .parent))) (sub-refl _)) in
       sub-trans c (sub-flat (brings s) (sub-map-one (f .listed)))
     where
-      sub-map-one : {i : ℕ} {is : List ℕ} → In i is → Sub (opens (kids s) 65 (op i)) (flat (opens (kids s) 65) (map op is))
-      sub-map-one {i} (here {xs}) = sub-begin (opens (kids s) 65 (op i)) (flat (opens (kids s) 65) (map op xs))
-      sub-map-one (later {x = j} m) = sub-append (sub-none (opens (kids s) 65 (op j))) (sub-map-one m)
+      sub-map-one : {i : ℕ} {is : List ℕ} → In i is → Sub (opens (kids s) (suc levels) (op i)) (flat (opens (kids s) (suc levels)) (map op is))
+      sub-map-one {i} (here {xs}) = sub-begin (opens (kids s) (suc levels) (op i)) (flat (opens (kids s) (suc levels)) (map op xs))
+      sub-map-one (later {x = j} m) = sub-append (sub-none (opens (kids s) (suc levels) (op j))) (sub-map-one m)
 
 -- ---- where nothing is listed twice, the walk opens nothing twice
 
@@ -199,9 +204,9 @@ module _ (x : Tables) (a : Apart x) where
       let b : j < x .counts .blocks = row-in (operations x) (x .counts .blocks) (operations-past x) f j m in
       apart (functions x) listed h (in-flat (operations x) (in-below (x .counts .blocks) j b) m)
 
-  opens-once : Distinct (flat (opens (kids (valued x)) 65) (map op (functions x)))
+  opens-once : Distinct (flat (opens (kids (valued x)) (suc levels)) (map op (functions x)))
   opens-once =
-      forest (kids (valued x)) kids-once 65 0 (map op (functions x))
+      forest (kids (valued x)) kids-once (suc levels) 0 (map op (functions x))
       (distinct-map op (λ a b e. cc) (sub-distinct (sub-begin (functions x) (flat (operations x) (below (x .counts .blocks)))) listed))
       (λ y h. let a = in-map op (functions x) h in record { root = op (a .it); is-root = root (a .it) (a .listed); reached = a .is })
 

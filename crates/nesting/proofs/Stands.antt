@@ -4,6 +4,7 @@ use mathlib.Core.Path.{_≡_, refl, ap, sym, _∙_}
 use mathlib.Core.Bool.{Bool, true, false, _||_}
 use mathlib.Core.List.{List, [], _∷_, _++_, append-assoc, append-nil}
 use Rattle.cells.specs.Lists.{flat, mem}
+use Rattle.tables.specs.Sizes.{maxDepth}
 use Rattle.tables.specs.Tables.{Tables, functions, regions, blocks, operations, arguments, operands}
 use Rattle.tables.specs.Answer.{andThen, each}
 use Rattle.tables.specs.declared.Answer.{Answer}
@@ -85,9 +86,9 @@ module _ (x : Tables) where
   pub whole-stands : wholeVisits (valued x) ≡ flat visitAt (stands x)
   unfolding wholeVisits stands valued
   whole-stands =
-      flat-same (λ f. flat (regionVisits 32 (valued x) []) (regions x f)) (λ f. flat visitAt (fromOperation (fromRegion 32 x) x (func f) f))
-      (λ f. regions-visits (regionVisits 32 (valued x)) (fromRegion 32 x) (region-visits 32) (func f) (regions x f)) (functions x)
-      ∙ sym (flat-flat visitAt (λ f. fromOperation (fromRegion 32 x) x (func f) f) (functions x))
+      flat-same (λ f. flat (regionVisits maxDepth (valued x) []) (regions x f)) (λ f. flat visitAt (fromOperation (fromRegion maxDepth x) x (func f) f))
+      (λ f. regions-visits (regionVisits maxDepth (valued x)) (fromRegion maxDepth x) (region-visits maxDepth) (func f) (regions x f)) (functions x)
+      ∙ sym (flat-flat visitAt (λ f. fromOperation (fromRegion maxDepth x) x (func f) f) (functions x))
 
 -- ---- it is what the sentence says
 

@@ -1,5 +1,5 @@
 -- Numbering over live values is numbering over live places: up to the first refusal no result is missing. Assumes nothing.
-use Prim.Native.Nat.{ℕ, zero, suc, _+_}
+use Prim.Native.Nat.{ℕ, zero, suc, _+_, _-_}
 use native.Mathlib.Omega.{arith}
 use mathlib.Core.Path.{_≡_, refl, ap, sym, _∙_}
 use mathlib.Core.Bool.{Bool, true, false, cond}
@@ -8,6 +8,7 @@ use mathlib.Core.List.{List, [], _∷_, _++_, map}
 use lib.ListN.{length}
 use lib.Dec.{eqb}
 use Rattle.cells.specs.Lists.{from, below, flat}
+use Rattle.tables.specs.Sizes.{maxDepth}
 use Rattle.tables.specs.Tables.{Tables, regions, blocks, operations, functions, arguments, opcode, operands, resultTypes}
 use Rattle.tables.specs.Sheet.{fixedCountIn}
 use Rattle.tables.specs.Place.{positionFrom}
@@ -175,12 +176,12 @@ module _ (sheet : List ℕ) (x : Tables) where
   entry-held : (f : ℕ) → foldEntry listings _++_ (numbersAt sheet x) overPlaces f ≡ foldEntry listings _++_ (numbersAmong sheet x) (valued x) f
   unfolding foldEntry placed nestingOf valued
   entry-held f =
-      let inside = foldRegion listings _++_ (numbersAt sheet x) overPlaces 31 in
-      let inside′ = foldRegion listings _++_ (numbersAmong sheet x) (valued x) 31 in
+      let inside = foldRegion listings _++_ (numbersAt sheet x) overPlaces (maxDepth - 1) in
+      let inside′ = foldRegion listings _++_ (numbersAmong sheet x) (valued x) (maxDepth - 1) in
       let one = foldBlock listings _++_ (numbersAt sheet x) overPlaces inside [] in
       let one′ = foldBlock listings _++_ (numbersAmong sheet x) (valued x) inside′ [] in
       first-same (λ k. ofFirst listings one (blocks x k)) (λ k. ofFirst listings one′ (blocks x k))
-      (λ k. first-same one one′ (block-held inside inside′ (region-held 31) [] [] refl) (blocks x k)) (regions x f)
+      (λ k. first-same one one′ (block-held inside inside′ (region-held (maxDepth - 1)) [] [] refl) (blocks x k)) (regions x f)
 
   pub direct-numbers : direct sheet x ≡ numbering sheet x
   unfolding direct foldEntries placed nestingOf valued

@@ -1,9 +1,10 @@
 -- What is live at a visit was brought by the walk's shape, and an entry walk is a part of the whole one. Assumes nothing.
-use Prim.Native.Nat.{ℕ, zero, suc}
+use Prim.Native.Nat.{ℕ, zero, suc, _-_}
 use mathlib.Core.Path.{sym, subst}
 use mathlib.Core.Logic.{⊎-elim}
 use mathlib.Core.List.{List, [], _∷_, _++_}
 use Rattle.cells.specs.Lists.{flat}
+use Rattle.tables.specs.Sizes.{maxDepth}
 use Rattle.nesting.specs.In.{In}
 use Rattle.nesting.specs.Shape.{Shape, Visit, visit, operationVisits, operationsVisits, blockVisits, regionVisits, wholeVisits, first, entryVisits, entriesVisits}
 use Rattle.nesting.proofs.Lists.{in-none, in-single, in-left, in-right, in-split, from-flat}
@@ -54,9 +55,9 @@ module _ {A : Type 0} (P : A → Type 0) (s : Shape A) (b : Brings P s) where
   pub whole-all : (u : Visit A) → In u (wholeVisits s) → All P (u .live)
   unfolding wholeVisits
   whole-all u h =
-      let f = from-flat (λ (i : ℕ). flat (regionVisits 32 s []) (s .regions i)) (s .functions) h in
-      let g = from-flat (regionVisits 32 s []) (s .regions (f .parent)) (f .holds) in
-      region-all 32 [] (λ p q. in-none q) (g .parent) u (g .holds)
+      let f = from-flat (λ (i : ℕ). flat (regionVisits maxDepth s []) (s .regions i)) (s .functions) h in
+      let g = from-flat (regionVisits maxDepth s []) (s .regions (f .parent)) (f .holds) in
+      region-all maxDepth [] (λ p q. in-none q) (g .parent) u (g .holds)
 
 -- ---- the entry walks
 
@@ -78,8 +79,8 @@ flat-grow f g k (x ∷ xs) h = ⊎-elim (λ p. in-left (flat g xs) (k x p)) (λ 
 pub entry-in : {A : Type 0} (s : Shape A) (u : Visit A) → In u (entriesVisits s) → In u (wholeVisits s)
 unfolding entriesVisits entryVisits wholeVisits regionVisits
 entry-in s u h =
-    flat-grow (entryVisits s) (λ f. flat (regionVisits 32 s []) (s .regions f))
-    (λ f q. first-in (regionVisits 32 s []) (s .regions f)
-    (first-grow (λ k. first (blockVisits (regionVisits 31 s) s []) (s .blocks k)) (regionVisits 32 s [])
-    (λ k p. first-in (blockVisits (regionVisits 31 s) s []) (s .blocks k) p) (s .regions f) q))
+    flat-grow (entryVisits s) (λ f. flat (regionVisits maxDepth s []) (s .regions f))
+    (λ f q. first-in (regionVisits maxDepth s []) (s .regions f)
+    (first-grow (λ k. first (blockVisits (regionVisits (maxDepth - 1) s) s []) (s .blocks k)) (regionVisits maxDepth s [])
+    (λ k p. first-in (blockVisits (regionVisits (maxDepth - 1) s) s []) (s .blocks k) p) (s .regions f) q))
     (s .functions) h

@@ -1,7 +1,8 @@
 -- The walk as code makes it: every visit is asked on the way, and the answers are joined in walk order. "region, block and operation still
 -- visit each other in turn"; the depth falls, and what is live is handed on.
-use Prim.Native.Nat.{ℕ, zero, suc}
+use Prim.Native.Nat.{ℕ, zero, suc, _-_}
 use mathlib.Core.List.{List, [], _∷_}
+use Rattle.tables.specs.Sizes.{maxDepth}
 use Rattle.tables.specs.Answer.{andThen}
 use Rattle.tables.specs.declared.Answer.{Answer}
 use Rattle.tables.specs.declared.Answer.the-variants.{Accepted}
@@ -50,11 +51,11 @@ module _ {A B : Type 0} (w : Way B) (grow : List A → List A → List A) (ask :
 
   -- function after function, each whole
   unfoldable pub foldWhole : B
-  foldWhole = all w (λ f. all w (foldRegion 32 []) (s .regions f)) (s .functions)
+  foldWhole = all w (λ f. all w (foldRegion maxDepth []) (s .regions f)) (s .functions)
 
   -- function after function, the first block of its first region
   unfoldable pub foldEntry : ℕ → B
-  foldEntry f = ofFirst w (λ k. ofFirst w (foldBlock (foldRegion 31) []) (s .blocks k)) (s .regions f)
+  foldEntry f = ofFirst w (λ k. ofFirst w (foldBlock (foldRegion (maxDepth - 1)) []) (s .blocks k)) (s .regions f)
 
   unfoldable pub foldEntries : B
   foldEntries = all w foldEntry (s .functions)

@@ -5,6 +5,7 @@ use Prim.Native.Nat.{ℕ, zero, suc}
 use mathlib.Core.Bool.{Bool, false, _||_, cond}
 use mathlib.Core.List.{List, [], _∷_, _++_}
 use Rattle.cells.specs.Lists.{flat, mem}
+use Rattle.tables.specs.Sizes.{maxDepth}
 use Rattle.tables.specs.Tables.{Tables, functions, regions, blocks, operations, arguments, operands}
 use Rattle.tables.specs.Answer.{each}
 use Rattle.tables.specs.declared.Answer.{Answer}
@@ -70,7 +71,7 @@ fromRegion zero x p k = []
 fromRegion (suc d) x p k = flat (fromBlock (fromRegion d x) x p) (blocks x k)
 
 unfoldable pub stands : Tables → List Stand
-stands x = flat (λ f. fromOperation (fromRegion 32 x) x (func f) f) (functions x)
+stands x = flat (λ f. fromOperation (fromRegion maxDepth x) x (func f) f) (functions x)
 
 -- ---- the first operand in walk order that is not visible; the function operation's own operands are not asked
 

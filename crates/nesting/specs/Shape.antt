@@ -1,9 +1,10 @@
 -- The one walk of the bench: each operation in order, outer before inner, with what is live where it stands.
 -- "Functions, regions, blocks and operations go in list order." "When a nested block ends, its numbers are free again": what is live is
 -- an argument of the walk, so nothing has to be taken back.
-use Prim.Native.Nat.{ℕ, zero, suc}
+use Prim.Native.Nat.{ℕ, zero, suc, _-_}
 use mathlib.Core.List.{List, [], _∷_, _++_}
 use Rattle.cells.specs.Lists.{flat}
+use Rattle.tables.specs.Sizes.{maxDepth}
 
 -- the nesting, and what becomes live: a block's arguments in the block, an operation's results after it and in its own regions
 pub record Shape (A : Type 0) : Type 0 where
@@ -42,7 +43,7 @@ regionVisits (suc d) s live k = flat (blockVisits (regionVisits d s) s live) (s 
 
 -- every function whole: nothing is live where its regions begin, and the function operation itself is not visited
 unfoldable pub wholeVisits : {A : Type 0} → Shape A → List (Visit A)
-wholeVisits s = flat (λ f. flat (regionVisits 32 s []) (s .regions f)) (s .functions)
+wholeVisits s = flat (λ f. flat (regionVisits maxDepth s []) (s .regions f)) (s .functions)
 
 abbrev pub first : {A B : Type 0} → (A → List B) → List A → List B
 first f [] = []
@@ -50,7 +51,7 @@ first f (x ∷ xs) = f x
 
 -- "The entry walk of a function is the first block of its first region, with everything nested inside. No region or block: empty list."
 unfoldable pub entryVisits : {A : Type 0} → Shape A → ℕ → List (Visit A)
-entryVisits s f = first (λ k. first (blockVisits (regionVisits 31 s) s []) (s .blocks k)) (s .regions f)
+entryVisits s f = first (λ k. first (blockVisits (regionVisits (maxDepth - 1) s) s []) (s .blocks k)) (s .regions f)
 
 -- "Each function starts afresh"; "function after function"
 unfoldable pub entriesVisits : {A : Type 0} → Shape A → List (Visit A)

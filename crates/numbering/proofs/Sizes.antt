@@ -1,6 +1,6 @@
 -- How long the lists are: a visit that is fine writes one number for each operand, and no walk has more operands than lists have entries.
 -- Assumes nothing.
-use Prim.Native.Nat.{ℕ, zero, suc, _+_, _≤_}
+use Prim.Native.Nat.{ℕ, zero, suc, _+_, _-_, _≤_}
 use native.Mathlib.Omega.{arith}
 use mathlib.Core.Path.{_≡_, refl, sym, ap, _∙_, subst}
 use mathlib.Core.Bool.{Bool, true, false, cond}
@@ -11,7 +11,7 @@ use lib.ListN.{length, length-append}
 use Rattle.cells.specs.Lists.{from, below, flat}
 use Rattle.tables.specs.Place.{positionFrom}
 use Rattle.tables.specs.Sheet.{fixedCountIn}
-use Rattle.tables.specs.Sizes.{maxEntries}
+use Rattle.tables.specs.Sizes.{maxDepth, maxEntries}
 use Rattle.tables.specs.Tables.{Tables, functions, regions, blocks, operations, opcode, operands, resultTypes}
 use Rattle.tables.specs.declared.Answer.the-variants.{Accepted}
 use Rattle.tables.specs.declared.Fixed.{Fixed}
@@ -155,9 +155,9 @@ module _ (x : Tables) where
     entry-sized : (f : ℕ) → Sized (functionNumbered sheet x f) (size x f)
     unfolding entryVisits placed nestingOf size
     entry-sized f =
-        first-sized (λ k. ofFirst listings (blockNumbered sheet x 31 []) (blocks x k)) (λ k. first (blockVisits (regionVisits 31 shape) shape []) (blocks x k))
-        (λ k. first-sized (blockNumbered sheet x 31 []) (blockVisits (regionVisits 31 shape) shape [])
-        (block-sized (regionNumbered sheet x 31) (regionVisits 31 shape) (region-sized 31) [] []) (blocks x k)) (regions x f)
+        first-sized (λ k. ofFirst listings (blockNumbered sheet x (maxDepth - 1) []) (blocks x k)) (λ k. first (blockVisits (regionVisits (maxDepth - 1) shape) shape []) (blocks x k))
+        (λ k. first-sized (blockNumbered sheet x (maxDepth - 1) []) (blockVisits (regionVisits (maxDepth - 1) shape) shape [])
+        (block-sized (regionNumbered sheet x (maxDepth - 1)) (regionVisits (maxDepth - 1) shape) (region-sized (maxDepth - 1)) [] []) (blocks x k)) (regions x f)
 
     -- a function has one number for each operand of its entry walk
     pub function-size : (f : ℕ) (ys : List ℕ) → functionNumbered sheet x f ≡ fine ys → length ys ≡ size x f
@@ -209,24 +209,24 @@ module _ (x : Tables) where
       flat-cost (blockVisits (regionVisits d shape) shape ps) (blockOrder (regionOrder d x) x)
       (block-cost (regionVisits d shape) (regionOrder d x) (region-cost d) ps) (blocks x k)
 
-  entry-cost : (f : ℕ) → size x f ≤ total own (operationOrder (regionOrder 32 x) x f)
+  entry-cost : (f : ℕ) → size x f ≤ total own (operationOrder (regionOrder maxDepth x) x f)
   unfolding size entryVisits operationOrder regionOrder placed nestingOf
   entry-cost f =
-      let one : (j : ℕ) → cost (blockVisits (regionVisits 31 shape) shape [] j) ≡ total own (blockOrder (regionOrder 31 x) x j) =
-      block-cost (regionVisits 31 shape) (regionOrder 31 x) (region-cost 31) [] in
+      let one : (j : ℕ) → cost (blockVisits (regionVisits (maxDepth - 1) shape) shape [] j) ≡ total own (blockOrder (regionOrder (maxDepth - 1) x) x j) =
+      block-cost (regionVisits (maxDepth - 1) shape) (regionOrder (maxDepth - 1) x) (region-cost (maxDepth - 1)) [] in
       omega (
         arith,
-        first-cost (λ k. first (blockVisits (regionVisits 31 shape) shape []) (blocks x k)) (λ k. flat (blockOrder (regionOrder 31 x) x) (blocks x k))
-            (λ k. first-cost (blockVisits (regionVisits 31 shape) shape []) (blockOrder (regionOrder 31 x) x) (λ j. omega (arith, one j)) (blocks x k))
+        first-cost (λ k. first (blockVisits (regionVisits (maxDepth - 1) shape) shape []) (blocks x k)) (λ k. flat (blockOrder (regionOrder (maxDepth - 1) x) x) (blocks x k))
+            (λ k. first-cost (blockVisits (regionVisits (maxDepth - 1) shape) shape []) (blockOrder (regionOrder (maxDepth - 1) x) x) (λ j. omega (arith, one j)) (blocks x k))
             (regions x f),
       )
 
-  entries-cost : (fs : List ℕ) → total (size x) fs ≤ total own (flat (operationOrder (regionOrder 32 x) x) fs)
+  entries-cost : (fs : List ℕ) → total (size x) fs ≤ total own (flat (operationOrder (regionOrder maxDepth x) x) fs)
   entries-cost [] = omega arith
   entries-cost (f ∷ fs) =
       omega (
         arith,
-        total-append own (operationOrder (regionOrder 32 x) x f) (flat (operationOrder (regionOrder 32 x) x) fs),
+        total-append own (operationOrder (regionOrder maxDepth x) x f) (flat (operationOrder (regionOrder maxDepth x) x) fs),
         entry-cost f,
         entries-cost fs,
       )

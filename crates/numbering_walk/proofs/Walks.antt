@@ -6,6 +6,7 @@ use mathlib.Core.Path.{_≡_, refl, sym, ap, _∙_, subst}
 use mathlib.Core.List.{List, [], _∷_, _++_, append-nil}
 use lib.ListN.{length, getD, drop}
 use Rattle.cells.proofs.Parts.{left-step, left-end}
+use Rattle.tables.specs.Sizes.{maxDepth}
 use Rattle.tables.specs.Tables.{Tables, lent, regions, blocks, operations, arguments}
 use Rattle.tables.specs.declared.Counts.{Counts}
 use Rattle.tables.specs.declared.Refusal.{Refusal}
@@ -216,13 +217,13 @@ module _ (sheet : List ℕ) where
     no-region h = let q : regions x f ≡ [] = sym ek ∙ left-end ks 0 0 (omega arith) in rw q
 
     module _ (h : length ks ≡ 0 → ⊥) {k : ℕ} (ei : k ≡ getD ks 0 0) {js : List ℕ} (ej : js ≡ blocks x k) where
-      first-is : functionNumbered sheet x f ≡ ofFirst listings (blockNumbered sheet x 31 []) (blocks x k)
+      first-is : functionNumbered sheet x f ≡ ofFirst listings (blockNumbered sheet x (maxDepth - 1) []) (blocks x k)
       first-is = let q : regions x f ≡ k ∷ drop 1 ks = sym ek ∙ left-step ks 0 0 (omega arith) ∙ ap (λ (z : ℕ). z ∷ drop 1 ks) (sym ei) in rw q
 
       pub no-block : length js ≡ 0 → fine [] ≡ functionNumbered sheet x f
       no-block g = let q : blocks x k ≡ [] = sym ej ∙ left-end js 0 0 (omega arith) in sym (first-is ∙ rw q)
 
-      pub block-first : (length js ≡ 0 → ⊥) → {j : ℕ} → j ≡ getD js 0 0 → blockNumbered sheet x 31 [] j ≡ functionNumbered sheet x f
+      pub block-first : (length js ≡ 0 → ⊥) → {j : ℕ} → j ≡ getD js 0 0 → blockNumbered sheet x (maxDepth - 1) [] j ≡ functionNumbered sheet x f
       block-first g {j} e =
           let q : blocks x k ≡ j ∷ drop 1 js = sym ej ∙ left-step js 0 0 (omega arith) ∙ ap (λ (z : ℕ). z ∷ drop 1 js) (sym e) in
           sym (first-is ∙ rw q)

@@ -1,8 +1,9 @@
 -- The walk as the code makes it, on the stack of live values: what each visit numbers, what it writes, and what is live after it.
-use Prim.Native.Nat.{ℕ, _+_, _<_}
+use Prim.Native.Nat.{ℕ, _+_, _-_, _<_}
 use mathlib.Core.Path.{_≡_}
 use mathlib.Core.List.{List, []}
 use lib.ListN.{length, getD}
+use Rattle.tables.specs.Sizes.{maxDepth}
 use Rattle.tables.specs.Sheet.{fixedCountIn}
 use Rattle.tables.specs.Tables.{Tables, regions, blocks, opcode, operands, resultTypes}
 use Rattle.tables.specs.Value.{valueOf}
@@ -49,7 +50,7 @@ regionsNumbered sheet x d live ks = all listings (regionNumbered sheet x d live)
 
 -- "The entry walk of a function is the first block of its first region": it is at depth 1, and nothing is live where it begins
 abbrev pub functionNumbered : List ℕ → Tables → ℕ → Listing ℕ
-functionNumbered sheet x f = ofFirst listings (λ k. ofFirst listings (blockNumbered sheet x 31 []) (blocks x k)) (regions x f)
+functionNumbered sheet x f = ofFirst listings (λ k. ofFirst listings (blockNumbered sheet x (maxDepth - 1) []) (blocks x k)) (regions x f)
 
 -- ---- what a visit leaves
 

@@ -10,6 +10,7 @@ use lib.ListN.{length, length-append}
 use borrow.Author.Tests.{le-ltb, eqb-true}
 use Rattle.cells.specs.Lists.{from, below, flat, count}
 use Rattle.cells.proofs.Rows.{lt-or-ge}
+use Rattle.tables.specs.Sizes.{maxDepth}
 use Rattle.tables.specs.Layout.{argumentsSpanIn}
 use Rattle.tables.specs.Tables.{Tables, functions, regions, blocks, operations, argumentsSpan, resultTypesSpan}
 use Rattle.tables.specs.declared.Place.{Place}
@@ -150,14 +151,14 @@ module _ (x : Tables) where
   whole-room : (u : Visit Place) → In u (wholeVisits shape) → after u ≤ total weight (order x)
   unfolding wholeVisits orderTo operationOrder placed spanned
   whole-room u h =
-      let f = from-flat (λ (i : ℕ). flat (regionVisits 32 shape []) (regions x i)) (functions x) h in
-      let g = from-flat (regionVisits 32 shape []) (regions x (f .parent)) (f .holds) in
+      let f = from-flat (λ (i : ℕ). flat (regionVisits maxDepth shape []) (regions x i)) (functions x) h in
+      let g = from-flat (regionVisits maxDepth shape []) (regions x (f .parent)) (f .holds) in
       omega (
         arith,
-        region-room 32 [] (g .parent) u (g .holds),
+        region-room maxDepth [] (g .parent) u (g .holds),
         in-total inRegion (g .listed),
-        in-flat-total weight (regionOrder 32 x) (regions x (f .parent)) (g .listed),
-        in-flat-total weight (operationOrder (regionOrder 32 x) x) (functions x) (f .listed),
+        in-flat-total weight (regionOrder maxDepth x) (regions x (f .parent)) (g .listed),
+        in-flat-total weight (operationOrder (regionOrder maxDepth x) x) (functions x) (f .listed),
       )
 
 -- ---- an id past the count stands in no list

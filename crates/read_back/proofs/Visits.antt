@@ -6,6 +6,7 @@ use mathlib.Core.Path.{_≡_, refl, ap, sym, _∙_, subst}
 use mathlib.Core.List.{List, [], _∷_, _++_}
 use lib.ListN.{length, getD, drop}
 use Rattle.cells.proofs.Parts.{left-step, left-end}
+use Rattle.tables.specs.Sizes.{maxDepth}
 use Rattle.tables.specs.Tables.{Tables, regions, blocks, operations}
 use Rattle.tables.specs.declared.Place.{Place}
 use Rattle.nesting.specs.Shape.{visit}
@@ -137,7 +138,7 @@ module _ (numbers : List ℕ) (x : Tables) (id : ℕ) (s : Stage) {w : Reading} 
         let q : blocks x (getD xs 0 0) ≡ [] = sym f ∙ left-end ys 0 0 (omega arith) in
         rw (k, q) v
 
-    pub entry-went : (length ys ≡ 0 → ⊥) → Went w stack held [] (readAll numbers s (blockUses x 31 [] (getD ys 0 0)))
+    pub entry-went : (length ys ≡ 0 → ⊥) → Went w stack held [] (readAll numbers s (blockUses x (maxDepth - 1) [] (getD ys 0 0)))
         → Went w stack held [] (readAll numbers s (entryUses x id))
     unfolding entryUses foldEntry blockUses regionUses placed spanned
     entry-went l v =
