@@ -3,3 +3,5 @@ pub mod Demands
 pub mod Seen
 pub mod Program
 pub mod OtherIds
+pub mod Depth
+pub mod Nested
