@@ -21,7 +21,6 @@ use Rattle.table_checks.proofs.Laws.{tables-pass, passes-3}
 use Rattle.nesting.specs.Live.{Nesting, nestingOf}
 use Rattle.nesting.specs.Numbering.{Listing, fine, refused, numbering}
 use Rattle.nesting.specs.ReadBack.{readBack, operandPlaces}
-use Rattle.nesting.proofs.Theorems as nesting
 use Rattle.numbering.specs.Alone.{outcome, sizes, over, handed, afterChecks, numberingAlone}
 use Rattle.numbering.specs.declared.Numbered.the-variants.{Written, Refused}
 use Rattle.full_check.specs.Full.{parts, refusals, fullCheck}
@@ -29,6 +28,7 @@ use Rattle.nesting_check.specs.Checks.{nestingRanges}
 use Rattle.read_back.specs.Alone.{spanned, written, afterChecks as afterRead, readBackAlone}
 use Rattle.read_back.proofs.Laws.{reads-back}
 use Rattle.theorems.proofs.Passed.{single}
+use Rattle.theorems.proofs.Demands.{written-numbers-read-back, same-list-same-places}
 use Rattle.theorems.proofs.Seen.{checks-are}
 
 -- tables that pass 1 to 4, and the list of their numbers
@@ -95,8 +95,7 @@ own-list-reads-back sheet x numbers lengths held c e =
 -- defining place in both."
 same-numbers : (s s′ : List ℕ) (x y : Tables) (zs zs′ : List ℕ) → nestingOf x ≡ nestingOf y → Numbers s x zs → Numbers s′ y zs′ → zs ≡ zs′
     → operandPlaces x ≡ operandPlaces y
-same-numbers s s′ x y zs zs′ n a b e =
-    nesting.same-list-same-places s s′ x y (single x (a .checks)) (single y (b .checks)) n zs (a .list) (b .list ∙ ap fine (sym e))
+same-numbers s s′ x y zs zs′ n a b e = same-list-same-places s s′ x y (a .checks) (b .checks) n zs (a .list) (b .list ∙ ap fine (sym e))
 
 -- of the list as numbering writes it to lent memory; it asks 1 to 4 and all of numbering itself, so nothing else is to be assumed
 pub written-list-same-places : (s s′ : List ℕ) (x y : Tables) (numbers lengths numbers′ lengths′ : List ℕ) (c c′ : ℕ)
@@ -132,8 +131,7 @@ unfolding readBackAlone
 reads sheet x y zs held n same =
     ap (λ (a : Answer). afterRead a (written (readBack (spanned y) zs) held) held) (checks-are x y (n .checks) same)
     ∙ ap (λ (m : Nesting). afterRead (nestingRanges y) (written (readBack m zs) held) held) same
-    ∙ ap (λ (l : Listing Place). afterRead (nestingRanges y) (written l held) held)
-    (nesting.reads-back sheet x (single x (n .checks)) zs (n .list))
+    ∙ ap (λ (l : Listing Place). afterRead (nestingRanges y) (written l held) held) (written-numbers-read-back sheet x (n .checks) zs (n .list))
 
 -- of the list as numbering wrote it to lent memory
 pub reading-finds-the-places : (sheet : List ℕ) (x y : Tables) (numbers lengths held : List ℕ) (c : ℕ)
