@@ -1,10 +1,10 @@
 -- The powers of two below 2 ^ d: which numbers they are, and that they are those with one set bit.
 use mathlib.Core.Path.{◌≡◌, refl, sym, ap, ◌∙◌}
-use mathlib.Core.Bool.{Bool, true, false, ◌||◌, or_true, false≢true}
+use mathlib.Core.Bool.{Bool, true, false, ◌||◌, or-true, false≢true}
 use mathlib.Core.Logic.{◌⊎◌, inl, inr, ⊎_elim}
 use Prim.Native.Nat.{ℕ, zero, suc, ◌+◌, ◌-◌, ◌*◌, ◌%◌, ◌^◌, ◌≤◌, ◌<◌}
 use native.Mathlib.Nat.{one-mul, pow-suc, mod-eq_of_lt}
-use native.Mathlib.Numerals.{sub_one}
+use native.Mathlib.Numerals.{sub-one}
 use native.Mathlib.Omega.{arith}
 use lib.Dec.{eqb, ltb}
 use lib.Pow.{pow_pos, pow-lt}
@@ -27,7 +27,7 @@ shifted k h = rw one-mul (mod-eq_of_lt (pow-lt h))
 pub pow_step : (k x : ℕ) → 0 < k → power_below k x ≡ (eqb x (2 ^ (k - 1)) || power_below (k - 1) x)
 unfolding power_below
 pow_step zero x h = absurd (omega arith)
-pow_step (suc k) x h = simp sub_one
+pow_step (suc k) x h = simp sub-one
 
 -- no power below 2 ^ d is 2 ^ d or more
 pow_above : (d n : ℕ) → 2 ^ d ≤ n → power_below d n ≡ false
@@ -82,7 +82,7 @@ one_bit_below (suc d) n h =
 module _ (d k : ℕ) (h : k < suc d) where
   found : (k < d → power_below d (2 ^ k) ≡ true) → (eqb (2 ^ k) (2 ^ d) || power_below d (2 ^ k)) ≡ true
   found i =
-      ⊎_elim (λ l. rw (i l, or_true)) (λ g. let e : k ≡ d = omega arith in rw (eq-eqb (2 ^ k) (2 ^ d) (ap (λ (j : ℕ). 2 ^ j) e)))
+      ⊎_elim (λ l. rw (i l, or-true)) (λ g. let e : k ≡ d = omega arith in rw (eq-eqb (2 ^ k) (2 ^ d) (ap (λ (j : ℕ). 2 ^ j) e)))
       (lt_or_ge k d)
 
 pub power_is : (d k : ℕ) → k < d → power_below d (2 ^ k) ≡ true

@@ -1,6 +1,6 @@
 -- A search along an operation's attributes: where they end, and one of them at a time. Assumes nothing.
 use Prim.Native.Nat.{ℕ, zero, suc, ◌+◌, ◌-◌, ◌≤◌, ◌<◌}
-use native.Mathlib.Numerals.{add-one, sub_one}
+use native.Mathlib.Numerals.{add-one, sub-one}
 use native.Mathlib.Omega.{arith}
 use mathlib.Core.Path.{◌≡◌, refl, ap}
 use mathlib.Core.Bool.{Bool, cond}
@@ -22,7 +22,7 @@ ends o n i s e h =
 module _ (p : ℕ → Bool) (k : ℕ) where
   pub find_step : (left : ℕ) → 0 < left → find p (from k left) ≡ cond (p k) (some k) (find p (from (k + 1) (left - 1)))
   find_step zero h = absurd (omega arith)
-  find_step (suc left) h = rw (add-one, sub_one)
+  find_step (suc left) h = rw (add-one, sub-one)
 
   pub find_end : (left : ℕ) → left ≤ 0 → find p (from k left) ≡ none
   find_end zero h = refl

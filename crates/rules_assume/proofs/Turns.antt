@@ -1,6 +1,6 @@
 -- Attributes asked in turn: one of them at a time, and what an answer does to those behind it.
 use Prim.Native.Nat.{ℕ, zero, suc, ◌+◌, ◌-◌, ◌≤◌, ◌<◌}
-use native.Mathlib.Numerals.{add-one, sub_one}
+use native.Mathlib.Numerals.{add-one, sub-one}
 use native.Mathlib.Omega.{arith}
 use mathlib.Core.Path.{◌≡◌, refl}
 use mathlib.Core.Bool.{Bool, true, false}
@@ -24,7 +24,7 @@ goes Leaves rest e = absurd (let z : ◌≡◌ {A = ℕ} 0 1 = cc in omega arith
 module _ (rule : ℕ → Verdict) (k : ℕ) where
   pub turn : (left : ℕ) → 0 < left → in_turn rule (from k left) ≡ or_else (rule k) (in_turn rule (from (k + 1) (left - 1)))
   turn zero h = absurd (omega arith)
-  turn (suc left) h = rw (add-one, sub_one)
+  turn (suc left) h = rw (add-one, sub-one)
 
   pub turns_end : (left : ℕ) → left ≤ 0 → in_turn rule (from k left) ≡ Holds
   turns_end zero h = refl

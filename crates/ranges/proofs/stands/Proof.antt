@@ -1,14 +1,14 @@
 -- `stands`: an entry is within the size and its row whole. Assumes nothing.
 use mathlib.Core.Path.{ap}
 use Rattle.ranges.proofs.Tests.{row_whole, row_empty}
-use mathlib.Core.Bool.{◌&&◌, and_true}
+use mathlib.Core.Bool.{◌&&◌, and-true}
 use lib.Dec.{ltb}
 use native.Mathlib.Omega.{arith}
 use Rattle.ranges.proofs.stands.Statement.{statement}
 use Rattle.ranges.proofs.stands.Tie as tie
 
 returns : tie.Need-returns
-returns c = let a = c.before.args in rw (row_empty a.cells a.width a.i c.if1.taken, and_true)
+returns c = let a = c.before.args in rw (row_empty a.cells a.width a.i c.if1.taken, and-true)
 
 div-result : tie.Need-div-result
 div-result c = omega arith
