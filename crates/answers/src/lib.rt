@@ -1,4 +1,6 @@
 // What an exported function takes and leaves: counts in a slice of seven, and an answer's three numbers in a slice.
+#![tactic(auto)]
+
 ghost use Rattle.std.specs.Prelude.{◌≡◌};
 ghost use Rattle.table_checks.specs.Checked.{answer_of};
 ghost use Rattle.answers.specs.Noted.{counts_of, told, told_of_numbers, noted, header_noted, counts_noted};

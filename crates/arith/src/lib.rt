@@ -1,17 +1,19 @@
 // The numbers that every rule rests on: signed bits, products that stay in an i64, ranges of widths,
 // remainders, powers of two. Every function answers on every input.
+#![tactic(auto)]
+
 ghost use Rattle.std.specs.Prelude.{◌≡◌, nat_abs};
 ghost use Rattle.arith.specs.Signed.{signed_of, bits_of, fits_width, remainder_of};
 ghost use Rattle.arith.specs.Product.{times_of, product_of, room_of};
 ghost use Rattle.arith.specs.Power.{is_power_of_two};
 
-#[derive(Drop)]
+#[derive(Clone, Copy)]
 pub enum Product {
     Is(i64),
     Leaves,
 }
 
-#[derive(Drop)]
+#[derive(Clone, Copy)]
 pub enum Remainder {
     Is(i64),
     NoDivisor,

@@ -1,4 +1,6 @@
 // What C and Rust link: numbers and slices only.
+#![tactic(auto)]
+
 ghost use Rattle.std.specs.Prelude.{◌≡◌};
 ghost use Rattle.tables.specs.Tables.{lent, nest};
 ghost use Rattle.table_checks.specs.Checks.{table_checks};

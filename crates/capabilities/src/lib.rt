@@ -1,4 +1,6 @@
 // Codes 9 and 10: whether a target has what it asks for itself, and what each operation asks for.
+#![tactic(auto)]
+
 ghost use Rattle.std.specs.Prelude.{◌≡◌, []};
 ghost use Rattle.tables.specs.Tables.{lent, attributes};
 ghost use Rattle.tables.specs.Answer.{each};

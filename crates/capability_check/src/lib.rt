@@ -1,4 +1,6 @@
 // Codes 9 and 10 called alone: 16 and 1 to 4 are asked first, then every reachable operation in walk order.
+#![tactic(auto)]
+
 ghost use Rattle.std.specs.Prelude.{◌≡◌};
 ghost use Rattle.tables.specs.Tables.{lent};
 ghost use Rattle.capability_check.specs.Alone.{capabilities_alone};

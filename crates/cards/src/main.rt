@@ -1,4 +1,6 @@
 // Prints the paper's twelve cards: the number of each, what it asks, and what the bench answers. The texts are files beside the program.
+#![tactic(auto)]
+
 mod ask;
 mod said;
 

@@ -111,5 +111,6 @@ from_length s zero = refl
 from_length s (suc n) = ap suc (from_length (suc s) n)
 
 pub from_at : (s n k : ℕ) → k < n → get_or (from s n) k 0 ≡ s + k
+from_at s zero k h = elim h [ ]
 from_at s (suc n) zero h = omega arith
 from_at s (suc n) (suc k) h = from_at (suc s) n k (omega arith) ∙ omega arith

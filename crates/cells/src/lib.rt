@@ -1,9 +1,11 @@
 // Lent tables: reads that give 0 past the end, writes that do nothing past the end. No caller has to ask first.
+#![tactic(auto)]
+
 ghost use Rattle.std.specs.Prelude.{◌≡◌, ◌+◌, ◌-◌, ◌*◌, ◌/◌, ◌%◌, ◌^◌, min, ◌&&◌, ltb, leb, length, get_or, set, replicate};
 ghost use Rattle.cells.specs.Cell.{cell, put_cell, span_at, entries_of, part_at, copied};
 
 // Where a list's entries stand.
-#[derive(Drop)]
+#[derive(Clone, Copy)]
 pub struct Span {
     pub start: u64,
     pub len: u64,

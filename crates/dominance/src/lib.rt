@@ -1,4 +1,6 @@
 // Code 5: the first operand in walk order that is not visible where it is used.
+#![tactic(auto)]
+
 ghost use Rattle.std.specs.Prelude.{◌≡◌, List, ℕ, ◌≤◌, length};
 ghost use Rattle.std.proofs.Math.Option.{Option};
 ghost use Rattle.tables.specs.Tables.{lent};
@@ -19,7 +21,7 @@ use tables::{Answer, Counts, Refusal};
 const FEW_VALUES: u64 = 512;
 
 // The scope after a visit, or the first operand that is not visible.
-#[derive(Drop)]
+#[derive(Clone, Copy)]
 enum Walked {
     Fine(Scope),
     Refused(Refusal),

@@ -1,17 +1,19 @@
 // Numbers as the house text writes them, and the parts of a text. Every function answers on every input.
+#![tactic(auto)]
+
 ghost use Rattle.std.specs.Prelude.{◌≡◌, ◌+◌, ◌-◌, length, take, drop};
 ghost use Rattle.fields.specs.Number.{unsigned_of, signed_of};
 ghost use Rattle.fields.specs.Cut.{end_from, split, nth};
 ghost use Rattle.fields.specs.Taken.{unsigned_from, signed_from};
 
-#[derive(Drop)]
+#[derive(Clone, Copy)]
 pub enum Number {
     Is(u64),
     Bad,
 }
 
 // A number that is a whole part of a text, and where the next part starts.
-#[derive(Drop)]
+#[derive(Clone, Copy)]
 pub enum Taken {
     Number(u64, u64),
     Bad,

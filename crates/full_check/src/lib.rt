@@ -1,4 +1,6 @@
 // The check that runs all, over tables: the table checks once, then each part in turn, and the number list written on acceptance only.
+#![tactic(auto)]
+
 ghost use Rattle.std.specs.Prelude.{◌≡◌, List, []};
 ghost use Rattle.tables.specs.Tables.{lent};
 ghost use Rattle.tables.specs.Answer.{and_then};

@@ -1,4 +1,6 @@
 // One line of the house text after another, into the lent tables.
+#![tactic(auto)]
+
 ghost use Rattle.std.specs.Prelude.{◌≡◌, suc, ◌+◌, leb, ltb, ◌&&◌, ◌||◌};
 ghost use Rattle.names.specs.Names.{bytes, equal};
 ghost use Rattle.fields.specs.Cut.{split};
@@ -13,7 +15,7 @@ use tables::{Answer, Counts, Refusal};
 
 // Where a reader stands, beside the tables: the phase, the lines and bytes before this line, the list entries in use, the header, the counts
 // and the first refusal.
-#[derive(Drop)]
+#[derive(Clone, Copy)]
 pub struct Reading {
     pub phase: u64,
     pub lines: u64,

@@ -5,7 +5,7 @@ use table_checks::Checked;
 use tables::{Answer, Counts, Numbers, Refusal, Target};
 
 // A part of the check that can be asked alone.
-#[derive(Drop)]
+#[derive(Clone, Copy)]
 pub enum Part {
     Tables,
     Dominance,

@@ -1,14 +1,14 @@
 // Files that the command's words name; `-` is standard input.
 
 // How many bytes a file gave, or that it cannot be read.
-#[derive(Drop)]
+#[derive(Clone, Copy)]
 pub enum Got {
     Bytes(usize),
     Unreadable,
 }
 
 // What one read gave: so many bytes in all, the end, or nothing because it failed.
-#[derive(Drop)]
+#[derive(Clone, Copy)]
 enum Step {
     Upto(usize),
     End,

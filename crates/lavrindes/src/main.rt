@@ -1,4 +1,6 @@
 // The command: its words, and what each of them reads and prints.
+#![tactic(auto)]
+
 mod asked;
 mod files;
 mod said;
@@ -7,7 +9,7 @@ use asked::Part;
 use files::Got;
 
 // What the first word asks for.
-#[derive(Drop)]
+#[derive(Clone, Copy)]
 enum Word {
     Check,
     Part,

@@ -1,4 +1,6 @@
 // One line of each kind of the house text, judged by its leftmost bad field. Lists go straight into the lent list entries.
+#![tactic(auto)]
+
 ghost use Rattle.std.specs.Prelude.{◌≡◌, ◌+◌, ◌-◌, take, drop};
 ghost use Rattle.fields.specs.Cut.{end_from, split};
 ghost use Rattle.fields.specs.Taken.{part_from, taken};
@@ -19,26 +21,26 @@ const HALF_32: u64 = 2147483648;
 const HALF_64: u64 = 9223372036854775808;
 
 // The numbers that a field may hold: 0 to a bound, or as many below 0 as from 0 on, as two's complement bits.
-#[derive(Drop)]
+#[derive(Clone, Copy)]
 pub enum Width {
     Unsigned(u64),
     Signed(u64),
 }
 
-#[derive(Drop)]
+#[derive(Clone, Copy)]
 pub enum Listed {
     Count(u64),
     Bad,
 }
 
-#[derive(Drop)]
+#[derive(Clone, Copy)]
 pub enum HeaderLine {
     Row { version: u64, sm: u64 },
     Bad(u64),
 }
 
 // The fault is the bad field, or 0 where there is none. Dims past the eighth count in the rank and are not kept.
-#[derive(Drop)]
+#[derive(Clone, Copy)]
 pub struct TypeLine {
     pub fault: u64,
     pub form: u64,
@@ -51,7 +53,7 @@ pub struct TypeLine {
 }
 
 // Of a value that claims no result, the last three are 0.
-#[derive(Drop)]
+#[derive(Clone, Copy)]
 pub enum ValueLine {
     Row {
         type_id: u64,
@@ -63,7 +65,7 @@ pub enum ValueLine {
 }
 
 // Of each list its length; the numbers themselves stand in the entries.
-#[derive(Drop)]
+#[derive(Clone, Copy)]
 pub enum OperationLine {
     Row {
         opcode: u64,
@@ -74,7 +76,7 @@ pub enum OperationLine {
     Bad(u64),
 }
 
-#[derive(Drop)]
+#[derive(Clone, Copy)]
 pub enum AttributeLine {
     Row {
         name: u64,
@@ -85,26 +87,26 @@ pub enum AttributeLine {
     Bad(u64),
 }
 
-#[derive(Drop)]
+#[derive(Clone, Copy)]
 pub enum BlockLine {
     Row { arguments: u64, operations: u64 },
     Bad(u64),
 }
 
-#[derive(Drop)]
+#[derive(Clone, Copy)]
 pub enum RegionLine {
     Row(u64),
     Bad(u64),
 }
 
-#[derive(Drop)]
+#[derive(Clone, Copy)]
 pub enum FunctionLine {
     Row(u64),
     Bad(u64),
 }
 
 // Two lists of ids, or which of them is bad.
-#[derive(Drop)]
+#[derive(Clone, Copy)]
 pub enum Pair {
     Counts(u64, u64),
     BadFirst,
@@ -112,14 +114,14 @@ pub enum Pair {
 }
 
 // The numbers of an attribute: how many, and which of them are absent, bit k for number k.
-#[derive(Drop)]
+#[derive(Clone, Copy)]
 pub enum Filled {
     Held { count: u64, missing: u64 },
     Bad,
 }
 
 // A number that may be absent.
-#[derive(Drop)]
+#[derive(Clone, Copy)]
 pub struct Slot {
     pub wrong: bool,
     pub value: u64,

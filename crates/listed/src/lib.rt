@@ -1,4 +1,6 @@
 // Code 2: the lowest operation, block or region that is listed twice, in one list or two.
+#![tactic(auto)]
+
 ghost use Rattle.std.specs.Prelude.{◌≡◌, []};
 ghost use Rattle.cells.specs.Lists.{below, flat};
 ghost use Rattle.tables.specs.Layout.{functions_in, operations_in, blocks_in, regions_in};

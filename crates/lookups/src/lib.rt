@@ -1,4 +1,6 @@
 // What a rule reads of an operation: its attributes by name and form, and the types and tiles of its operands and its result.
+#![tactic(auto)]
+
 ghost use Rattle.std.specs.Prelude.{◌≡◌};
 ghost use Rattle.tiles.specs.Tile.{has_kind};
 ghost use Rattle.lookups.specs.Lookup.{is_taken, first_in, is_entry, entry_in, integer_in, number_or, permutation_in, segments_in, segment_in, flushes_in};
@@ -9,7 +11,7 @@ use tables::Counts;
 use tiles::Tile;
 
 // What an arm of the rules answers: all kept, the reason that is broken, or a product that is no i64.
-#[derive(Drop)]
+#[derive(Clone, Copy)]
 pub enum Verdict {
     Holds,
     Broken(u64),
@@ -17,7 +19,7 @@ pub enum Verdict {
 }
 
 // What a lookup takes, besides the name.
-#[derive(Drop)]
+#[derive(Clone, Copy)]
 pub enum Wanted {
     Integer,
     Array,
@@ -26,21 +28,21 @@ pub enum Wanted {
 }
 
 // The attribute that a lookup finds.
-#[derive(Drop)]
+#[derive(Clone, Copy)]
 pub enum Entry {
     At(u64),
     Nowhere,
 }
 
 // The 64 bits of an integer attribute.
-#[derive(Drop)]
+#[derive(Clone, Copy)]
 pub enum Found {
     Number(u64),
     Absent,
 }
 
 // The attribute that holds an operation's segment sizes, by what they are.
-#[derive(Drop)]
+#[derive(Clone, Copy)]
 pub enum SegmentSizes {
     Integers(u64),
     Bools(u64),
@@ -48,7 +50,7 @@ pub enum SegmentSizes {
 }
 
 // The type of an operand or of a result.
-#[derive(Drop)]
+#[derive(Clone, Copy)]
 pub enum Typed {
     By(u64),
     Untyped,

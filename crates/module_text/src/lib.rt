@@ -1,4 +1,6 @@
 // A whole module text in the house form, read into the lent tables.
+#![tactic(auto)]
+
 ghost use Rattle.std.specs.Prelude.{◌≡◌, ◌+◌, eqb, ltb, ◌&&◌, ◌||◌};
 ghost use Rattle.tables.specs.Tables.{lent};
 ghost use Rattle.house.specs.House.{no_counts};

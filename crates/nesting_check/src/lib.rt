@@ -1,4 +1,6 @@
 // What reading back asks of the tables first: codes 1, 2 and 3 of the nesting, and nothing of types, values and attributes.
+#![tactic(auto)]
+
 ghost use Rattle.std.specs.Prelude.{◌≡◌, ◌&&◌, [], suc, ◌+◌, ◌*◌, min, ltb, leb, get_or};
 ghost use Rattle.tables.specs.Sizes.{max_operations, max_blocks, max_regions, max_functions, max_entries, operation_table, block_table, region_table, function_table};
 ghost use Rattle.tables.specs.Tables.{nest, functions};
@@ -13,7 +15,7 @@ use tables::{Answer, Counts, Refusal};
 use walk::Walked;
 
 // A pass over a table that holds lists: its answer, and the list entries up to its end.
-#[derive(Drop)]
+#[derive(Clone, Copy)]
 struct Pass {
     pub answer: Answer,
     pub used: u64,

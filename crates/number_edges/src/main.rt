@@ -1,5 +1,7 @@
 // Prints what `arith` answers at the edges of its ranges, one line an answer, fields parted by a tab.
 
+#![tactic(auto)]
+
 const OUT: i32 = 1;
 
 const BITS: [u64; 12] = [

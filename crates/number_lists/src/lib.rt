@@ -1,4 +1,6 @@
 // The number lists of functions, read back: each has as many numbers as its function has operands, then all are read.
+#![tactic(auto)]
+
 ghost use Rattle.std.specs.Prelude.{◌≡◌};
 ghost use Rattle.read_back.specs.Alone.{outcome};
 ghost use Rattle.number_lists.specs.Lists.{is_wrong, one_of, fits, all_fit, parted, read_lists};

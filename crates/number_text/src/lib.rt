@@ -1,4 +1,6 @@
 // A text of numbers as the bench prints it, line by line, into two lent lists: the numbers, and how many each function has.
+#![tactic(auto)]
+
 ghost use Rattle.std.specs.Prelude.{◌≡◌, ◌≤◌, length};
 ghost use Rattle.names.specs.Names.{bytes, equal};
 ghost use Rattle.fields.specs.Cut.{split};
@@ -16,14 +18,14 @@ pub const MAX_BYTES: u64 = 262144;
 const MAX_64: u64 = 18446744073709551615;
 
 // What the lent lists hold: so many numbers, of so many functions.
-#[derive(Drop)]
+#[derive(Clone, Copy)]
 pub enum Lists {
     Read { count: u64, functions: u64 },
     Refused(Refusal),
 }
 
 // What an `n` line says: how many numbers it has; or its bad field.
-#[derive(Drop)]
+#[derive(Clone, Copy)]
 pub enum Line {
     Numbers(u64),
     Bad(u64),

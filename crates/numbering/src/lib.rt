@@ -1,4 +1,6 @@
 // Codes 8, 6, 7 and 13: the numbers of the operands of each function's entry walk, function after function.
+#![tactic(auto)]
+
 ghost use Rattle.std.specs.Prelude.{◌≡◌, List, ℕ, ◌≤◌, length, take};
 ghost use Rattle.tables.specs.Sizes.{max_entries, max_functions};
 ghost use Rattle.tables.specs.Tables.{lent};
@@ -18,7 +20,7 @@ use tables::{Answer, Counts, Refusal};
 const FEW_VALUES: u64 = 512;
 
 // How many numbers are written, or the first refusal.
-#[derive(Drop)]
+#[derive(Clone, Copy)]
 pub enum Numbered {
     Written { count: u64 },
     Refused(Refusal),

@@ -1,4 +1,6 @@
 // Codes 8, 6 and 7 along one entry walk: the numbers of its operands, in walk order.
+#![tactic(auto)]
+
 ghost use Rattle.std.specs.Prelude.{◌≡◌, List, [], ℕ, ◌≤◌, length};
 ghost use Rattle.tables.specs.Layout.{opcode_in, result_types_in};
 ghost use Rattle.tables.specs.Sheet.{fixed_count_in};
@@ -13,7 +15,7 @@ use scope::{Found, Scope};
 use tables::{Answer, Counts, Fixed, Refusal};
 
 // The scope after a visit and how many numbers are written, or the first refusal.
-#[derive(Drop)]
+#[derive(Clone, Copy)]
 pub enum Walked {
     Fine { scope: Scope, done: u64 },
     Refused(Refusal),

@@ -1,4 +1,6 @@
 // What the command prints, laid as bytes into a lent buffer: `ok` with a line for each function, or the one `no` line of a refusal.
+#![tactic(auto)]
+
 ghost use Rattle.std.specs.Prelude.{◌≡◌};
 ghost use Rattle.io.specs.Counts.{IsPrefixLen};
 ghost use Rattle.printing.specs.Laid.{state, pushed, laid};

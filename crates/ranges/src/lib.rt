@@ -1,5 +1,7 @@
 // Code 1: every id, span, form, flag and width of the eight tables in range.
 // Tests are joined by `&`, which asks them all: each answers for any entry, and the code reads as the definition does.
+#![tactic(auto)]
+
 ghost use Rattle.std.specs.Prelude.{◌≡◌, ◌&&◌, suc, ◌+◌, ◌*◌, min, [], get_or, ltb, leb};
 ghost use Rattle.std.proofs.Math.Option.{some};
 ghost use Rattle.tables.specs.Sizes.{max_types, max_values, max_operations, max_attributes, max_blocks, max_regions, max_functions, max_entries, type_table, value_table, function_table};
@@ -24,7 +26,7 @@ const MODES: u64 = 16;
 const NAMES: u64 = 13;
 
 // A pass over a table that holds lists: the list entries up to its end, or its first bad entry.
-#[derive(Drop)]
+#[derive(Clone, Copy)]
 enum Scanned {
     Good(u64),
     Bad(u64),

@@ -1,4 +1,6 @@
 // Code 14: numbers read back to places, by nesting and counts alone. A first walk judges, a second writes.
+#![tactic(auto)]
+
 ghost use Rattle.std.specs.Prelude.{◌≡◌, List, [], map, ℕ};
 ghost use Rattle.cells.specs.Lists.{below};
 ghost use Rattle.tables.specs.Tables.{nest};
@@ -22,7 +24,7 @@ const OF_OPERATION: u64 = 1;
 const PLACE_CELLS: u64 = 3;
 
 // How many places are live, how many numbers are read, and the first refusal so far.
-#[derive(Drop)]
+#[derive(Clone, Copy)]
 struct Reading {
     pub next: u64,
     pub at: u64,

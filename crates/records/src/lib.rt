@@ -1,15 +1,17 @@
 // The record reader: it holds the text it was lent and its place. The work is done by functions on a plain slice and a place.
+#![tactic(auto)]
+
 ghost use Rattle.std.specs.Prelude.{◌≡◌};
 ghost use Rattle.records.specs.Read.{cut_at, line_at, field_at, place_past, opened, read_line, read_field, line_of};
 
-#[derive(Drop)]
+#[derive(Clone, Copy)]
 pub struct Reader<'a> {
     pub text: &'a [u8],
     pub at: u64,
 }
 
 // What is read at a place. Every LF ends a line and every tab a field; what stands after the last one is the rest.
-#[derive(Drop)]
+#[derive(Clone, Copy)]
 pub enum Cut {
     // The bytes from start up to end, where the LF or tab stands; next is the place past it.
     Part { start: u64, end: u64, next: u64 },
@@ -20,7 +22,7 @@ pub enum Cut {
 }
 
 // What was read, and the reader moved past it.
-#[derive(Drop)]
+#[derive(Clone, Copy)]
 pub struct Read<'a> {
     pub cut: Cut,
     pub reader: Reader<'a>,

@@ -1,4 +1,6 @@
 // Prints every answer of `requirements`: each feature against each version and target, each target, opcode and kind, and attributes.
+#![tactic(auto)]
+
 use requirements::{Architecture, Asked, Met, Requirement};
 
 const OUT: i32 = 1;

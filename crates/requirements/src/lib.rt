@@ -1,3 +1,5 @@
+#![tactic(auto)]
+
 ghost use Rattle.std.specs.Prelude.{◌≡◌, get_or};
 ghost use Rattle.requirements.specs.Feature.{requirement_of, architecture_from};
 ghost use Rattle.requirements.specs.Met.{met_by};
@@ -8,27 +10,27 @@ ghost use Rattle.requirements.specs.Attribute.{any_true, is_value, has_true, exp
 
 use names::{BOOL, BOOLS, FAST_ACC, INBOUNDS, INTEGER, PRODUCER, ROUNDING_MODE, SATURATING};
 
-#[derive(Drop)]
+#[derive(Clone, Copy)]
 pub enum Architecture {
     Any,
     AtLeast(u64),
     Only(u64),
 }
 
-#[derive(Drop)]
+#[derive(Clone, Copy)]
 pub struct Requirement {
     pub since: u64,
     pub architecture: Architecture,
 }
 
-#[derive(Drop)]
+#[derive(Clone, Copy)]
 pub enum Met {
     Yes,
     VersionLow,
     ArchitectureNot,
 }
 
-#[derive(Drop)]
+#[derive(Clone, Copy)]
 pub enum Asked {
     Feature(u64),
     Nothing,

@@ -1,4 +1,6 @@
 // Codes 11 and 12 called alone: 16 and 1 to 4 are asked first, then the rules of every reachable operation in walk order.
+#![tactic(auto)]
+
 ghost use Rattle.std.specs.Prelude.{ℕ, ◌≡◌, List, take};
 ghost use Rattle.tables.specs.Tables.{lent};
 ghost use Rattle.rules.specs.Operation.{rules};

@@ -1,4 +1,6 @@
 // Codes 11 and 12: the operation rules, arm by arm, over operations given in walk order.
+#![tactic(auto)]
+
 ghost use Rattle.std.specs.Prelude.{◌≡◌, [], cond, length, get_or};
 ghost use Rattle.cells.specs.Lists.{below};
 ghost use Rattle.tables.specs.Layout.{opcode_in};

@@ -1,4 +1,6 @@
 // The operation rule of Assume: div_by, same_elements and bounded. The arm answers on any tables.
+#![tactic(auto)]
+
 ghost use Rattle.std.specs.Prelude.{◌≡◌};
 ghost use Rattle.std.specs.Int.Signed.{lt_z};
 ghost use Rattle.lookups.specs.Lookup.{is_absent};

@@ -1,4 +1,6 @@
 // The rules of the two atomic operations on pointers.
+#![tactic(auto)]
+
 ghost use Rattle.std.specs.Prelude.{◌≡◌, drop};
 ghost use Rattle.rules_atomic.specs.Arm.{is_swap, takes_kind, is_mode, is_between, is_bad_swap, is_bad_mode, is_bad_order, any_wrong_mask, mask_start, is_bad_mask, atomic_by, atomic_in};
 

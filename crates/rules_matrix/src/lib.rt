@@ -1,4 +1,6 @@
 // The operation rules on matrices and their parts: MmaF, MmaI and MmaFScaled, and Insert and Extract. Each arm answers on any tables.
+#![tactic(auto)]
+
 ghost use Rattle.std.specs.Prelude.{◌≡◌};
 ghost use Rattle.tables.specs.Layout.{value_type_in};
 ghost use Rattle.tiles.specs.Tile.{tile_in};

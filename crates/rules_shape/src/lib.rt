@@ -1,4 +1,6 @@
 // The rules of the six shape operations.
+#![tactic(auto)]
+
 ghost use Rattle.std.specs.Prelude.{◌≡◌};
 ghost use Rattle.rules_shape.specs.Arm.{moved_by, is_packing, pack_leaves, valid_in, shaped_in, shape_in};
 

@@ -1,4 +1,6 @@
 // The operation rules of a few tests each: conversions, sums and exponentials, views and memory, powers, tokens, and flush_to_zero.
+#![tactic(auto)]
+
 ghost use Rattle.std.specs.Prelude.{◌≡◌, ◌||◌, [], eqb, leb};
 ghost use Rattle.tables.specs.Tables.{lent};
 ghost use Rattle.lookups.specs.Lookup.{is_absent, is_some};

@@ -1,4 +1,6 @@
 // The operation rule of LoadViewTko, StoreViewTko and AtomicRedViewTko. The arm answers on any tables.
+#![tactic(auto)]
+
 ghost use Rattle.std.specs.Prelude.{◌≡◌, eqb, leb};
 ghost use Rattle.lookups.specs.Lookup.{is_absent, is_some};
 ghost use Rattle.rules_view.specs.View.{view_place, index_start, segment_place, is_other_tile, is_no_reduction, takes_kind, is_mode_wrong, is_count_wrong, is_order_wrong, is_other_kind, index_rule, element_after, is_holds, is_sparse_axis, value_in, indices_rule, view_by, view_rule, view_arm_in};

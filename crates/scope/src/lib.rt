@@ -1,18 +1,20 @@
 // The growing scope: a small value handed on and handed back, over a counted stack of live values that rolls back.
+#![tactic(auto)]
+
 ghost use Rattle.std.specs.Prelude.{◌≡◌, List, ℕ};
 ghost use Rattle.cells.specs.Lists.{mem};
 ghost use Rattle.tables.specs.Place.{position_from};
 ghost use Rattle.scope.specs.Stack.{see, see_all, Shows, number_in, deeper};
 
 // How many values are live, and how many blocks deeper the walk may go.
-#[derive(Drop)]
+#[derive(Clone, Copy)]
 pub struct Scope {
     pub next: u64,
     pub depth: u64,
 }
 
 // The number of a live value: its place on the stack.
-#[derive(Drop)]
+#[derive(Clone, Copy)]
 pub enum Found {
     At(u64),
     Nowhere,

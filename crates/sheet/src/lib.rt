@@ -1,4 +1,6 @@
 // A rule sheet's text, line by line, into the lent sheet.
+#![tactic(auto)]
+
 ghost use Rattle.std.specs.Prelude.{◌≡◌};
 ghost use Rattle.names.specs.Names.{bytes, equal};
 ghost use Rattle.fields.specs.Cut.{split, nth};
@@ -16,7 +18,7 @@ const MAX_MASK: u64 = 65535;
 const HALF_64: u64 = 9223372036854775808;
 
 // The kinds of line, by their tag.
-#[derive(Drop)]
+#[derive(Clone, Copy)]
 pub enum Tag {
     Sheet,
     Count,
@@ -28,7 +30,7 @@ pub enum Tag {
 }
 
 // What a line says: its kind, numbered from 1 in the order of the kinds, its key (0 where it has none) and its value; or its bad field.
-#[derive(Drop)]
+#[derive(Clone, Copy)]
 pub enum Line {
     Row { kind: u64, key: u64, value: u64 },
     Bad(u64),

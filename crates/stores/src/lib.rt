@@ -1,4 +1,6 @@
 // One line of each kind of the house text, judged and stored as an entry of its table.
+#![tactic(auto)]
+
 ghost use Rattle.std.specs.Prelude.{◌≡◌, ◌+◌, ◌*◌, leb};
 ghost use Rattle.std.proofs.lemmas.List.Edits.{sets};
 ghost use Rattle.fields.specs.Cut.{split};
@@ -10,7 +12,7 @@ use cells::narrow;
 use lines::{AttributeLine, BlockLine, FunctionLine, OperationLine, RegionLine, ValueLine};
 
 // What storing a line gives: the list entries in use after it, its bad field, or no room for it.
-#[derive(Drop)]
+#[derive(Clone, Copy)]
 pub enum Step {
     Taken(u64),
     Bad(u64),

@@ -1,4 +1,6 @@
 // Codes 16, 1, 2, 3 and 4 in turn, and for the parts above the reachable operations in walk order and the values of declared results.
+#![tactic(auto)]
+
 ghost use Rattle.std.specs.Prelude.{◌≡◌, List, ℕ, length, replicate};
 ghost use Rattle.tables.specs.Tables.{lent};
 ghost use Rattle.walk.specs.Order.{order};
@@ -10,7 +12,7 @@ use tables::{Answer, Counts, Refusal, Target};
 use walk::Walked;
 
 // How many reachable operations stand in the list, or the first refusal.
-#[derive(Drop)]
+#[derive(Clone, Copy)]
 pub enum Checked {
     Fine(u64),
     Refused(Refusal),

@@ -1,4 +1,6 @@
 // The paper's tables: their sizes, where things stand in the lent slices, and the answers.
+#![tactic(auto)]
+
 ghost use Rattle.std.specs.Prelude.{◌≡◌, Bool, get_or, take};
 ghost use Rattle.tables.specs.Layout.{counted_cell, counted_span, opcode_in, result_types_span_in, result_types_in, operands_span_in, operands_in, regions_span_in, regions_in, attributes_span_in, attributes_in, arguments_span_in, arguments_in, operations_span_in, operations_in, blocks_span_in, blocks_in, functions_in, value_type_in, claim_flag_in, claim_in, form_in, kind_in, pointer_in, padded_in, sparse_in, rank_in, dims_in, name_in, attribute_form_in, numbers_span_in, numbers_in, absent_in};
 ghost use Rattle.tables.specs.Sheet.{fixed_flag_in, fixed_count_in, mode_mask_in, contained_mask_in, byte_width_in, tile_flag_in, tile_through_in};
@@ -65,7 +67,7 @@ pub const FUNCTION_TABLE: u64 = 7;
 pub const SHEET_TABLE: u64 = 8;
 
 // How many entries of each table count.
-#[derive(Drop)]
+#[derive(Clone, Copy)]
 pub struct Counts {
     pub types: u64,
     pub values: u64,
@@ -77,28 +79,28 @@ pub struct Counts {
 }
 
 // What a module is for: the minor version (4 is 13.4) and the sm number.
-#[derive(Drop)]
+#[derive(Clone, Copy)]
 pub struct Target {
     pub version: u64,
     pub sm: u64,
 }
 
 // The declared result that a value claims to be.
-#[derive(Drop)]
+#[derive(Clone, Copy)]
 pub enum Claim {
     Result(u64, u64),
     Nothing,
 }
 
 // How many results the sheet fixes for an opcode.
-#[derive(Drop)]
+#[derive(Clone, Copy)]
 pub enum Fixed {
     Count(u64),
     Free,
 }
 
 // Where a value is defined: a block and a position, an operation and a result, or nowhere.
-#[derive(Drop)]
+#[derive(Clone, Copy)]
 pub enum Place {
     Argument(u64, u64),
     Result(u64, u64),
@@ -106,7 +108,7 @@ pub enum Place {
 }
 
 // The refusals, in the order of their codes, each with its id and detail.
-#[derive(Drop)]
+#[derive(Clone, Copy)]
 pub enum Refusal {
     OutOfRange { table: u64, entry: u64 },
     ListedTwice { id: u64, list: u64 },
@@ -126,14 +128,14 @@ pub enum Refusal {
     NoTarget,
 }
 
-#[derive(Drop)]
+#[derive(Clone, Copy)]
 pub enum Answer {
     Accepted,
     Refused(Refusal),
 }
 
 // What is printed of a refusal.
-#[derive(Drop)]
+#[derive(Clone, Copy)]
 pub struct Numbers {
     pub code: u64,
     pub id: u64,

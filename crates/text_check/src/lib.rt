@@ -1,4 +1,6 @@
 // The check over texts: the sheet is read, then the module, then its tables are asked.
+#![tactic(auto)]
+
 ghost use Rattle.std.specs.Prelude.{◌≡◌, ◌≤◌};
 ghost use Rattle.tables.specs.Tables.{lent};
 ghost use Rattle.tables.specs.Answer.{numbers_of};

@@ -1,5 +1,7 @@
 // A tile by value, and the tests that the operation rules make of tiles. Every function answers on every input, so the parts of a test
 // are joined by `&` and `|`: no part has to be asked first.
+#![tactic(auto)]
+
 ghost use Rattle.std.specs.Prelude.{◌≡◌, not, ◌||◌, map, drop};
 ghost use Rattle.arith.specs.Signed.{signed_of};
 ghost use Rattle.cells.specs.Lists.{mem};
@@ -47,7 +49,7 @@ pub const F4E2M1FN: u64 = 14;
 pub const F8E5M3FNU: u64 = 15;
 
 // What a rule sees of a type: form 0 is no tile, 1 a tile of numbers, 2 a tile of pointers to its kind.
-#[derive(Drop)]
+#[derive(Clone, Copy)]
 pub struct Tile {
     pub form: u64,
     pub kind: u64,

@@ -1,4 +1,6 @@
 // Code 4: the lowest value that is defined twice; and the values of declared results, found in one pass over the values.
+#![tactic(auto)]
+
 ghost use Rattle.std.specs.Prelude.{◌≡◌, [], ◌+◌, ◌≤◌, min, length, get_or};
 ghost use Rattle.cells.specs.Lists.{below, flat};
 ghost use Rattle.tables.specs.Layout.{arguments_in, result_types_in};

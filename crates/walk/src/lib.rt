@@ -1,4 +1,6 @@
 // Code 3, and the reachable operations in walk order: region visits blocks, block visits operations, operation visits regions.
+#![tactic(auto)]
+
 ghost use Rattle.std.specs.Prelude.{◌≡◌, ℕ, List};
 ghost use Rattle.tables.specs.Tables.{nest};
 ghost use Rattle.walk.specs.Order.{operation_order, block_order, region_order, order};
@@ -8,7 +10,7 @@ ghost use Rattle.walk.specs.Written.{filled, push, Visited, told, wrote, walked}
 use tables::Counts;
 
 // How many operations were written, or the operation that opens depth 33.
-#[derive(Drop)]
+#[derive(Clone, Copy)]
 pub enum Walked {
     Fine(u64),
     Deep(u64),

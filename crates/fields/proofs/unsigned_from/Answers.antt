@@ -1,0 +1,74 @@
+-- `unsigned_from` meets its contract: the part from the cursor on makes of the value so far what the whole part is.
+use Prim.Native.Nat.{◌≤◌, ◌-◌}
+use mathlib.Core.Path.{◌≡◌, refl, ◌∙◌}
+use native.Mathlib.Omega.{arith}
+use lib.ListN.{length, get_or}
+use Rattle.fields.specs.Taken.{unsigned_from}
+use Rattle.fields.proofs.Digits.{low, high, over, fine}
+use Rattle.fields.proofs.Takes.{take_on, take_end, take_here, take_stuck, take_onward, no_part, empty_part, take_start, zero_last, zero_alone, zero_leads}
+use Rattle.fields.proofs.unsigned_from.Goals as goal
+
+pub returns-then-n-first : goal.returns-then-n-first
+returns-then-n-first c =
+    no_part _ _ _ _ c.if-n-first.true
+
+pub returns-then-s-first : goal.returns-then-s-first
+returns-then-s-first c =
+    empty_part _ _ _ _ (omega arith) c.if-s-first.true
+
+pub returns-then-n-first-2 : goal.returns-then-n-first-2
+returns-then-n-first-2 c =
+    zero_last _ _ _ _ (omega arith) c.if-s-first.false c.if-s-first-eq48.true c.if-n-first-2.true
+
+pub returns-then-s-first-2 : goal.returns-then-s-first-2
+returns-then-s-first-2 c =
+    zero_alone _ _ _ _ (omega arith) c.if-s-first.false c.if-s-first-eq48.true (omega arith) c.if-s-first-2.true
+
+pub returns-then-s-first-eq48 : goal.returns-then-s-first-eq48
+returns-then-s-first-eq48 c =
+    zero_leads _ _ _ _ (omega arith) c.if-s-first.false c.if-s-first-eq48.true (omega arith) c.if-s-first-2.false
+
+pub loop-i-init : goal.loop-i-init
+loop-i-init c =
+    (refl, omega arith, omega arith, take_start _ _ _ _ (omega arith) c.if-s-first.false c.if-s-first-eq48.false)
+
+pub returns-then-b-byte : goal.returns-then-b-byte
+returns-then-b-byte c =
+    let l = c.loop-i in take_here _ _ l.x l.i _ (omega arith) c.if-b-byte.true ∙ l.invariant.3
+
+pub returns-then-b-lt48 : goal.returns-then-b-lt48
+returns-then-b-lt48 c =
+    let l = c.loop-i in take_stuck _ _ l.x l.i _ (omega arith) c.if-b-byte.false (low _ _ _ c.if-b-lt48.true) ∙ l.invariant.3
+
+pub returns-then-b-gt57 : goal.returns-then-b-gt57
+returns-then-b-gt57 c =
+    let l = c.loop-i in take_stuck _ _ l.x l.i _ (omega arith) c.if-b-byte.false (high _ _ _ c.if-b-gt57.true) ∙ l.invariant.3
+
+pub returns-then-x-gt1844674407370955161 : goal.returns-then-x-gt1844674407370955161
+returns-then-x-gt1844674407370955161 c =
+    let a = c.args in
+    let l = c.loop-i in
+    take_stuck _ _ l.x l.i _ (omega arith) c.if-b-byte.false (over a.max l.x (get_or a.s.now l.i 0) (omega arith)) ∙ l.invariant.3
+
+pub returns-then-max-tens : goal.returns-then-max-tens
+returns-then-max-tens c =
+    let a = c.args in
+    let l = c.loop-i in
+    take_stuck _ _ l.x l.i _ (omega arith) c.if-b-byte.false (over a.max l.x (get_or a.s.now l.i 0) (omega arith)) ∙ l.invariant.3
+
+pub returns-then-max-tens-2 : goal.returns-then-max-tens-2
+returns-then-max-tens-2 c =
+    let a = c.args in
+    let l = c.loop-i in
+    take_stuck _ _ l.x l.i _ (omega arith) c.if-b-byte.false (over a.max l.x (get_or a.s.now l.i 0) (omega arith)) ∙ l.invariant.3
+
+pub loop-i-preserved : goal.loop-i-preserved
+loop-i-preserved c =
+    let a = c.args in
+    let l = c.loop-i in
+    let more = fine a.max l.x (get_or a.s.now l.i 0) (omega arith) (omega arith) (omega arith) in
+    (refl, omega arith, omega arith, rw c.wide-digit.ensures (take_onward _ _ l.x l.i _ (omega arith) c.if-b-byte.false more ∙ l.invariant.3))
+
+pub returns : goal.returns
+returns c =
+    let l = c.loop-i in take_end _ _ l.x l.i _ (omega arith) (omega arith) ∙ l.invariant.3

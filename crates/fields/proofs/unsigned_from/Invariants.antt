@@ -1,0 +1,16 @@
+-- `unsigned_from` meets its contract: the part from the cursor on makes of the value so far what the whole part is.
+use Prim.Native.Nat.{◌≤◌, ◌-◌}
+use mathlib.Core.Path.{◌≡◌, refl, ◌∙◌}
+use native.Mathlib.Omega.{arith}
+use lib.ListN.{length, get_or}
+use Rattle.fields.specs.Taken.{unsigned_from}
+use Rattle.fields.proofs.Digits.{low, high, over, fine}
+use Rattle.fields.proofs.Takes.{take_on, take_end, take_here, take_stuck, take_onward, no_part, empty_part, take_start, zero_last, zero_alone, zero_leads}
+use Rattle.fields.proofs.unsigned_from.Given as goal
+
+abbrev pub invariant-loop-i : goal.invariant-loop-i
+invariant-loop-i z =
+    (z.n ≡ length z.s) × (z.i ≤ z.n) × (z.x ≤ z.max) × (take_on z.byte z.max z.x z.i z.s ≡ unsigned_from z.byte z.max z.start z.s)
+
+abbrev pub decreases-loop-i : goal.decreases-loop-i
+decreases-loop-i z = z.n - z.i

@@ -1,0 +1,19 @@
+-- `read_lines` meets its contract: the lines from the cursor on, after what the lent lists hold, give what the whole text gives.
+use native.Mathlib.Omega.{arith}
+use Prim.Native.Nat.{◌+◌, ◌-◌, ◌≤◌}
+use mathlib.Core.Path.{◌≡◌, refl, ◌∙◌, ap}
+use lib.ListN.{length, take, drop}
+use Rattle.fields.specs.Cut.{split}
+use Rattle.fields.proofs.Parts.{end_ge}
+use Rattle.number_text.specs.Text.{Step, state, lines_of, over, fresh, ended}
+use Rattle.number_text.proofs.Whole.{at_end, at_far, at_refused, at_read}
+use Rattle.number_text.proofs.read_lines.Given as goal
+
+abbrev pub invariant-loop-functions : goal.invariant-loop-functions
+invariant-loop-functions z =
+    (z.p ≤ length z.text) × (z.line ≤ z.p + 1) × (z.count ≤ 8192) × (z.functions ≤ 64) × (length z.numbers ≡ length z.initial.numbers) × (length z.lengths ≡ length z.initial.lengths)
+    × (over (take z.count z.numbers) z.initial.numbers ≡ z.numbers) × (over (take z.functions z.lengths) z.initial.lengths ≡ z.lengths)
+    × (lines_of (state z.line z.p (take z.count z.numbers) (take z.functions z.lengths)) (split 10 (drop z.p z.text)) ≡ lines_of fresh (split 10 z.text))
+
+abbrev pub decreases-loop-functions : goal.decreases-loop-functions
+decreases-loop-functions z = length z.text - z.p

@@ -1,0 +1,28 @@
+-- `add_results`: the values of an operation's declared results, one by one, up to the first that is missing. Assumes nothing.
+use Prim.Native.Nat.{ℕ, ◌-◌}
+use native.Mathlib.Omega.{arith}
+use mathlib.Core.Path.{◌≡◌, refl, ap, ◌∙◌}
+use mathlib.Core.List.{List}
+use lib.ListN.{length}
+use Rattle.tables.specs.Layout.{result_types_in}
+use Rattle.tables.specs.Tables.{lent}
+use Rattle.tables.specs.Value.{value_of}
+use Rattle.nesting.specs.Live.{result_values, value_at}
+use Rattle.scope.specs.Stack.{Shows}
+use Rattle.numbering_walk.specs.Walk.{Tells}
+use Rattle.numbering_walk.proofs.Walks.{stopped}
+use Rattle.numbering_walk.proofs.Operation.{Taking, taking_start, taking_more, taking_stop, taking_end, numbered_none, numbered_some, there_is}
+use Rattle.numbering_walk.proofs.add_results.Given as goal
+
+abbrev pub invariant-loop-k : goal.invariant-loop-k
+invariant-loop-k z =
+    (length z.dense ≡ length z.initial.dense)
+    × (length z.sparse ≡ length z.initial.sparse)
+    × (z.s.depth ≡ z.initial.s.depth)
+    × (z.count ≡ length (result_types_in z.o z.l z.n z.id))
+    × ((t v a b r f : List ℕ) → let x = lent t v z.o a b r f z.l z.n in Tells x z.bases z.claims
+    → (live : List ℕ) → Shows z.n.values z.initial.dense z.initial.sparse z.initial.s.next live
+    → Taking z.n.values (value_of x z.id) z.id z.count live z.dense z.sparse z.s.next z.k)
+
+abbrev pub decreases-loop-k : goal.decreases-loop-k
+decreases-loop-k z = z.count - z.k

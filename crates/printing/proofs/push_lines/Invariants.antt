@@ -1,0 +1,20 @@
+-- `push_lines` meets its contract. The loop's invariant: the lines still to be laid, from here, give all of them from the start.
+use native.Mathlib.Omega.{arith}
+use Prim.Native.Nat.{ℕ, ◌+◌, ◌-◌, ◌≤◌}
+use mathlib.Core.Path.{◌≡◌, refl, sym, ap, ◌∙◌}
+use mathlib.Core.List.{List}
+use lib.ListN.{length, take, drop, get_or}
+use Rattle.printing.specs.Laid.{State, state, laid}
+use Rattle.printing.specs.Lines.{line, lines}
+use Rattle.printing.proofs.Laws.{lines_step, lines_end}
+use Rattle.printing.proofs.push_lines.Given as goal
+
+abbrev pub invariant-loop-i : goal.invariant-loop-i
+invariant-loop-i z =
+    (length z.out ≡ length z.initial.out)
+    × (z.i ≤ length z.lengths)
+    × (z.start ≤ length z.list)
+    × (laid (lines z.letter z.outer z.width z.i (drop z.i z.lengths) (drop z.start z.list)) (state z.next z.out) ≡ laid (lines z.letter z.outer z.width 0 z.lengths z.list) (state z.at z.initial.out))
+
+abbrev pub decreases-loop-i : goal.decreases-loop-i
+decreases-loop-i z = length z.lengths - z.i

@@ -1,0 +1,19 @@
+-- `push_list` meets its contract. The loop's invariant: what is still to be laid, from here, gives what was to be laid after the first entry.
+use native.Mathlib.Omega.{arith}
+use Prim.Native.Nat.{ℕ, ◌+◌, ◌-◌, ◌≤◌}
+use mathlib.Core.Path.{◌≡◌, refl, sym, ap, ◌∙◌}
+use mathlib.Core.List.{List}
+use lib.ListN.{length, drop, get_or}
+use Rattle.printing.specs.Laid.{state, pushed, laid}
+use Rattle.printing.specs.Lines.{decimal, others}
+use Rattle.printing.proofs.Laws.{parted_none, parted_first, others_step, others_end}
+use Rattle.printing.proofs.push_list.Given as goal
+
+abbrev pub invariant-loop-i : goal.invariant-loop-i
+invariant-loop-i z =
+    (length z.out ≡ length z.initial.out)
+    × (z.i ≤ length z.list)
+    × (laid (others z.outer z.i (drop z.i z.list)) (state z.next z.out) ≡ laid (others z.outer 1 (drop 1 z.list)) (state z.initial.next z.initial.out))
+
+abbrev pub decreases-loop-i : goal.decreases-loop-i
+decreases-loop-i z = length z.list - z.i

@@ -1,0 +1,19 @@
+-- `read_lines` meets its contract: the lines from the cursor on, after those before it, give what the whole text gives.
+use native.Mathlib.Omega.{arith}
+use Prim.Native.Nat.{◌+◌, ◌-◌, ◌≤◌}
+use mathlib.Core.Path.{◌≡◌, refl, ◌∙◌, ap}
+use lib.ListN.{length, drop}
+use Rattle.fields.specs.Cut.{split}
+use Rattle.fields.proofs.Parts.{end_ge}
+use Rattle.tables.specs.declared.Answer.TheVariants.{Accepted}
+use Rattle.sheet.specs.Sheet.{state, lines_of, fresh, ended}
+use Rattle.sheet.proofs.Whole.{at_end, at_far, at_bad, at_row}
+use Rattle.sheet.proofs.read_lines.Given as goal
+
+abbrev pub invariant-loop-last : goal.invariant-loop-last
+invariant-loop-last z =
+    (z.p ≤ length z.text) × (z.line ≤ z.p + 1) × (length z.sheet ≡ length z.initial.sheet)
+    × (lines_of (state z.last z.key z.line z.p z.sheet Accepted) (split 10 (drop z.p z.text)) ≡ lines_of (fresh z.initial.sheet) (split 10 z.text))
+
+abbrev pub decreases-loop-last : goal.decreases-loop-last
+decreases-loop-last z = length z.text - z.p

@@ -1,0 +1,16 @@
+-- `store_u64` meets its contract: the cells that are left, written after those that are, are the whole row.
+use native.Mathlib.Omega.{arith}
+use Prim.Native.Nat.{◌+◌, ◌-◌, ◌≤◌}
+use mathlib.Core.Path.{◌≡◌, refl, ◌∙◌, ap}
+use lib.ListN.{length, drop}
+use lib.Seq.{sets}
+use Rattle.lines.proofs.Lists.{sets_min}
+use Rattle.stores.proofs.Stores.{row_start, row_step, row_end}
+use Rattle.stores.proofs.store_u64.Given as goal
+
+abbrev pub invariant-loop-i : goal.invariant-loop-i
+invariant-loop-i z =
+    (z.i ≤ length z.row) × (length z.table ≡ length z.initial.table) × (sets z.table (z.start + z.i) (drop z.i z.row) ≡ sets z.initial.table z.start z.row)
+
+abbrev pub decreases-loop-i : goal.decreases-loop-i
+decreases-loop-i z = length z.row - z.i

@@ -1,0 +1,10 @@
+-- `arguments`: the entries of the list's span. Assumes nothing.
+use mathlib.Core.Path.{ap, ◌∙◌}
+use Rattle.cells.specs.Cell.{entries_of}
+use Rattle.tables.specs.Layout.{arguments_in}
+use Rattle.tables.proofs.arguments.Goals as goal
+
+pub returns : goal.returns
+unfolding arguments_in
+returns c =
+    c.entries.ensures ∙ ap (entries_of c.args.l.now) c.arguments_span.ensures

@@ -1,0 +1,10 @@
+-- `operands`: the entries of the list's span. Assumes nothing.
+use mathlib.Core.Path.{ap, ◌∙◌}
+use Rattle.cells.specs.Cell.{entries_of}
+use Rattle.tables.specs.Layout.{operands_in}
+use Rattle.tables.proofs.operands.Goals as goal
+
+pub returns : goal.returns
+unfolding operands_in
+returns c =
+    c.entries.ensures ∙ ap (entries_of c.args.l.now) c.operands_span.ensures

@@ -1,0 +1,19 @@
+-- `eight` meets its contract: each number before i stands in its place.
+use mathlib.Core.Path.{◌≡◌, refl, ap, ◌∙◌}
+use Prim.Native.Nat.{ℕ, ◌-◌, ◌≤◌, ◌<◌}
+use native.Mathlib.Omega.{arith}
+use lib.IntN.{pos}
+use lib.ListN.{length, get_or, length-set}
+use mir.Syntax.{w64}
+use mir.Val.{SFits}
+use mir.Facts.{to_z-of_z}
+use Rattle.arith.specs.Signed.{signed_of}
+use Rattle.tiles.proofs.Dims.{fill_step, eight_is}
+use Rattle.tiles.proofs.eight.Given as goal
+
+abbrev pub invariant-loop-i : goal.invariant-loop-i
+invariant-loop-i z =
+    (z.i ≤ 8) × (length z.dims ≡ 8) × ((k : ℕ) → k < z.i → get_or z.dims k (pos 0) ≡ signed_of (get_or z.bits k 0))
+
+abbrev pub decreases-loop-i : goal.decreases-loop-i
+decreases-loop-i z = 8 - z.i
