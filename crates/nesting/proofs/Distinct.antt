@@ -115,6 +115,7 @@ sub_single (here {xs}) = keep (sub_none xs)
 sub_single (later h) = skip (sub_single h)
 
 sub_in : {A : Type 0} {x : A} {xs ys : List A} → Sub xs ys → In x xs → In x ys
+sub_in {A = A} done h = elim h [ ]
 sub_in (keep p) here = here
 sub_in (keep p) (later h) = later (sub_in p h)
 sub_in (skip p) h = later (sub_in p h)
@@ -127,6 +128,7 @@ sub_distinct (skip p) (more h d) = sub_distinct p d
 -- ---- lists that are distinct together
 
 pub apart : {A : Type 0} {y : A} (xs : List A) {ys : List A} → Distinct (xs ++ ys) → In y xs → In y ys → ⊥
+apart {A = A} {y = y} [] {ys = ys} _ x4 j = elim x4 [ ]
 apart (x ∷ xs) (more h d) here j = h (in_right xs j)
 apart (x ∷ xs) (more h d) (later i) j = apart xs d i j
 

@@ -35,8 +35,8 @@ ask_both : (b : Bool) (a : Answer) (r : Refusal) → cond b a (Refused r) ≡ Ac
 ask_both true a r h = (refl, h)
 ask_both false a r h = ((cc), (cc))
 
-seen_in_lem : (f : ℕ → Bool) (i k : ℕ) {v : ℕ} {vs : List ℕ} → In v vs → first_hidden f i k vs ≡ Accepted → f v ≡ true
-seen_in_lem f i k {v} (here {xs}) e = (ask_both (f v) (first_hidden f i (suc k) xs) (NotVisible i k) e).0
+seen_in_lem : (f : ℕ → Bool) (i : ℕ) {v : ℕ} (k : ℕ) {vs : List ℕ} → In v vs → first_hidden f i k vs ≡ Accepted → f v ≡ true
+seen_in_lem f i {v} k (here {xs}) e = (ask_both (f v) (first_hidden f i (suc k) xs) (NotVisible i k) e).0
 seen_in_lem f i k (later {x = y} {xs = ys} m) e = seen_in_lem f i (suc k) m (ask_both (f y) (first_hidden f i (suc k) ys) (NotVisible i k) e).1
 
 in_seen : (f : ℕ → Bool) (i k : ℕ) (vs : List ℕ) → ((v : ℕ) → In v vs → f v ≡ true) → first_hidden f i k vs ≡ Accepted
