@@ -5,11 +5,11 @@ use mathlib.Core.List.{List, [], ◌∷◌}
 use mathlib.Core.Path.{◌≡◌, refl, sym, ◌∙◌, ap}
 use native.Mathlib.Omega.{arith}
 use native.Mathlib.Numerals.{add-one}
-use lib.ListN.{length, get_or, drop, drop_of_length-le}
+use lib.ListN.{length, get_or, drop_of_length-le}
 use lib.Seq.{drop-cons, take_all}
 use borrow.Author.Tests.{eq-eqb, ne_eqb, le-leb}
 use Rattle.fields.specs.Cut.{until, end_from}
-use Rattle.fields.specs.Number.{all_digits, value_after, is_decimal, decimal_of, written, unsigned_of, signed_of}
+use Rattle.fields.specs.Number.{value_after, is_decimal, decimal_of, written, unsigned_of}
 use Rattle.fields.specs.Taken.{part_from, taken, unsigned_from, signed_from}
 use Rattle.fields.specs.declared.Number.{Number}
 use Rattle.fields.specs.declared.Number.TheVariants.{Is, Bad}

@@ -1,11 +1,8 @@
 -- `count` meets its contract: the parts that have ended, and those of what is left.
 use Prim.Native.Nat.{◌+◌, ◌-◌, ◌≤◌}
-use mathlib.Core.Logic.{⊎_elim}
-use mathlib.Core.Path.{◌≡◌, refl}
-use native.Mathlib.Omega.{arith}
+use mathlib.Core.Path.{◌≡◌}
 use lib.ListN.{length, drop}
 use Rattle.fields.specs.Cut.{split}
-use Rattle.fields.proofs.Parts.{count_here, count_next, count_end}
 use Rattle.fields.proofs.count.Given as goal
 
 abbrev pub invariant-loop-i : goal.invariant-loop-i

@@ -1,9 +1,7 @@
 -- `find` meets its contract: bytes that were passed are not the one, so the end is the same from the place after them.
-use Prim.Native.Nat.{◌+◌, ◌-◌, ◌≤◌}
-use mathlib.Core.Path.{◌≡◌, refl, sym, ◌∙◌}
+use Prim.Native.Nat.{◌+◌}
+use mathlib.Core.Path.{refl, sym, ◌∙◌}
 use native.Mathlib.Omega.{arith}
-use lib.ListN.{length}
-use Rattle.fields.specs.Cut.{end_from}
 use Rattle.fields.proofs.Parts.{until_here, until_next, until_two, until_three, until_four, until_end}
 use Rattle.fields.proofs.find.Goals as goal
 

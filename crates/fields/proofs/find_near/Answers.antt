@@ -1,9 +1,6 @@
 -- `find_near` meets its contract: a byte that was passed is not the one, so the end is the same from the next place.
-use Prim.Native.Nat.{◌-◌}
-use mathlib.Core.Path.{◌≡◌, refl, sym, ◌∙◌}
+use mathlib.Core.Path.{sym, ◌∙◌}
 use native.Mathlib.Omega.{arith}
-use lib.ListN.{length}
-use Rattle.fields.specs.Cut.{end_from}
 use Rattle.fields.proofs.Parts.{until_here, until_next, until_end}
 use Rattle.fields.proofs.find_near.Goals as goal
 

@@ -1,10 +1,8 @@
 -- `find_near` meets its contract: a byte that was passed is not the one, so the end is the same from the next place.
 use Prim.Native.Nat.{◌-◌}
-use mathlib.Core.Path.{◌≡◌, refl, sym, ◌∙◌}
-use native.Mathlib.Omega.{arith}
+use mathlib.Core.Path.{◌≡◌}
 use lib.ListN.{length}
 use Rattle.fields.specs.Cut.{end_from}
-use Rattle.fields.proofs.Parts.{until_here, until_next, until_end}
 use Rattle.fields.proofs.find_near.Given as goal
 
 abbrev pub invariant-loop-i : goal.invariant-loop-i

@@ -1,10 +1,8 @@
 -- `part` meets its contract: the part that is asked for is the one so many parts after the cursor.
 use Prim.Native.Nat.{◌≤◌}
-use mathlib.Core.Path.{◌≡◌, refl, sym, ap, ◌∙◌}
-use native.Mathlib.Omega.{arith}
+use mathlib.Core.Path.{◌≡◌}
 use lib.ListN.{length, drop}
 use Rattle.fields.specs.Cut.{split, nth}
-use Rattle.fields.proofs.Parts.{at_last, at_more, at_any, nth_first, nth_next, nth_none}
 use Rattle.fields.proofs.part.Given as goal
 
 abbrev pub invariant-loop-left : goal.invariant-loop-left

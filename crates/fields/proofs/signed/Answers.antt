@@ -14,13 +14,11 @@ returns-then-half-eq0 c =
 
 pub returns-then-size-eq0 : goal.returns-then-size-eq0
 returns-then-size-eq0 c =
-    let m = c.size-1.given in
-    minus_zero _ _ (omega arith) c.if-s-eq45.true _ c.unsigned.ensures m.0.0 m.1 c.if-size-eq0.true
+    minus_zero _ _ (omega arith) c.if-s-eq45.true _ c.unsigned.ensures c.in-Is.size c.in-Is.is c.if-size-eq0.true
 
 pub returns-else-size-eq0 : goal.returns-else-size-eq0
 returns-else-size-eq0 c =
-    let m = c.size-1.given in
-    minus_size _ _ (omega arith) c.if-s-eq45.true _ c.unsigned.ensures m.0.0 m.1 c.if-size-eq0.false (omega arith)
+    minus_size _ _ (omega arith) c.if-s-eq45.true _ c.unsigned.ensures c.in-Is.size c.in-Is.is c.if-size-eq0.false (omega arith)
 
 pub returns-in-Bad : goal.returns-in-Bad
 returns-in-Bad c =

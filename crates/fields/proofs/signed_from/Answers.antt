@@ -18,13 +18,11 @@ returns-then-first-byte c =
 
 pub returns-then-size-eq0 : goal.returns-then-size-eq0
 returns-then-size-eq0 c =
-    let m = c.size-1.given in
-    minus_part_zero _ _ _ _ (omega arith) c.if-first-byte.false c.if-first-eq45.true _ c.unsigned_from.ensures m.0.0 m.0.1.0 m.1 c.if-size-eq0.true
+    minus_part_zero _ _ _ _ (omega arith) c.if-first-byte.false c.if-first-eq45.true _ c.unsigned_from.ensures c.in-Number.size c.in-Number.next c.in-Number.is c.if-size-eq0.true
 
 pub returns-else-size-eq0 : goal.returns-else-size-eq0
 returns-else-size-eq0 c =
-    let m = c.size-1.given in
-    minus_part_size _ _ _ _ (omega arith) c.if-first-byte.false c.if-first-eq45.true _ c.unsigned_from.ensures m.0.0 m.0.1.0 m.1 c.if-size-eq0.false (omega arith)
+    minus_part_size _ _ _ _ (omega arith) c.if-first-byte.false c.if-first-eq45.true _ c.unsigned_from.ensures c.in-Number.size c.in-Number.next c.in-Number.is c.if-size-eq0.false (omega arith)
 
 pub returns-in-Bad : goal.returns-in-Bad
 returns-in-Bad c =

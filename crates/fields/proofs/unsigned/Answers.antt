@@ -1,12 +1,10 @@
 -- `unsigned` meets its contract: the bytes not yet read make of the value so far what the whole field is.
-use Prim.Native.Nat.{◌≤◌, ◌-◌, ◌/◌}
-use mathlib.Core.Logic.{⊎_elim}
-use mathlib.Core.Path.{◌≡◌, refl, ◌∙◌}
+use mathlib.Core.Path.{refl, ◌∙◌}
 use native.Mathlib.Omega.{arith}
-use lib.ListN.{length, drop, get_or}
-use Rattle.fields.specs.Number.{unsigned_of}
-use Rattle.fields.proofs.Digits.{read_on, empty, zero_first, start, stuck, onward, ended, low, high, over, fine}
+use lib.ListN.{get_or}
+use Rattle.fields.proofs.Digits.{empty, zero_first, start, stuck, onward, ended, low, high, over, fine}
 use Rattle.fields.proofs.unsigned.Goals as goal
+use Rattle.fields.proofs.unsigned.Goals.{then-s-eq48+else-n-gt1, else-s-eq48}
 
 pub returns-then-n-eq0 : goal.returns-then-n-eq0
 returns-then-n-eq0 c =
@@ -18,7 +16,7 @@ returns-then-n-gt1 c =
 
 pub loop-i-init : goal.loop-i-init
 loop-i-init c =
-    (refl, refl, omega arith, omega arith, start _ _ (omega arith) (⊎_elim (λ w e. omega arith) (λ w e. absurd (w.left e)) c.if-s-eq48.branch))
+    (refl, refl, omega arith, omega arith, start _ _ (omega arith) (elim c.if-s-eq48.branch [ then-s-eq48+else-n-gt1 w ↦ λ e. omega arith | else-s-eq48 w ↦ λ e. absurd (w.if-s-eq48.false e) ]))
 
 pub returns-then-b-lt48 : goal.returns-then-b-lt48
 returns-then-b-lt48 c =

@@ -1,11 +1,9 @@
 -- `unsigned` meets its contract: the bytes not yet read make of the value so far what the whole field is.
 use Prim.Native.Nat.{◌≤◌, ◌-◌, ◌/◌}
-use mathlib.Core.Logic.{⊎_elim}
-use mathlib.Core.Path.{◌≡◌, refl, ◌∙◌}
-use native.Mathlib.Omega.{arith}
-use lib.ListN.{length, drop, get_or}
+use mathlib.Core.Path.{◌≡◌}
+use lib.ListN.{length, drop}
 use Rattle.fields.specs.Number.{unsigned_of}
-use Rattle.fields.proofs.Digits.{read_on, empty, zero_first, start, stuck, onward, ended, low, high, over, fine}
+use Rattle.fields.proofs.Digits.{read_on}
 use Rattle.fields.proofs.unsigned.Given as goal
 
 abbrev pub invariant-loop-i : goal.invariant-loop-i

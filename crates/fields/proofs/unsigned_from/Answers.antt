@@ -1,11 +1,9 @@
 -- `unsigned_from` meets its contract: the part from the cursor on makes of the value so far what the whole part is.
-use Prim.Native.Nat.{◌≤◌, ◌-◌}
-use mathlib.Core.Path.{◌≡◌, refl, ◌∙◌}
+use mathlib.Core.Path.{refl, ◌∙◌}
 use native.Mathlib.Omega.{arith}
-use lib.ListN.{length, get_or}
-use Rattle.fields.specs.Taken.{unsigned_from}
+use lib.ListN.{get_or}
 use Rattle.fields.proofs.Digits.{low, high, over, fine}
-use Rattle.fields.proofs.Takes.{take_on, take_end, take_here, take_stuck, take_onward, no_part, empty_part, take_start, zero_last, zero_alone, zero_leads}
+use Rattle.fields.proofs.Takes.{take_end, take_here, take_stuck, take_onward, no_part, empty_part, take_start, zero_last, zero_alone, zero_leads}
 use Rattle.fields.proofs.unsigned_from.Goals as goal
 
 pub returns-then-n-first : goal.returns-then-n-first
