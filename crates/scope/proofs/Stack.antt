@@ -48,6 +48,7 @@ count_once back (x ∷ xs) f v =
     go false e r = rw e (omega arith)
 
 in_below : (n : ℕ) (xs : List ℕ) → ((k : ℕ) → k < length xs → get_or xs k 0 < n) → (v : ℕ) → In v xs → v < n
+in_below n [] f v x'' = elim x'' [ ]
 in_below n (x ∷ xs) f v here = f 0 (omega arith)
 in_below n (x ∷ xs) f v (later h) = in_below n xs (λ k l. f (suc k) (omega arith)) v h
 

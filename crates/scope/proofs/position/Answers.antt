@@ -1,0 +1,13 @@
+-- `position`: where a live value stands on the stack. Assumes nothing.
+use native.Mathlib.Omega.{arith}
+use Rattle.scope.proofs.Stack.{position_past, position_other, position_here}
+use Rattle.scope.proofs.position.Goals as goal
+
+pub returns-then-next-k : goal.returns-then-next-k
+returns-then-next-k c = λ nv live g. position_past g c.args.v _ c.at_u64-k.ensures (omega arith)
+
+pub returns-then-at_u64-v : goal.returns-then-at_u64-v
+returns-then-at_u64-v c = λ nv live g. position_other g c.args.v _ c.at_u64-k.ensures _ c.at_u64.ensures c.if-at_u64-v.true
+
+pub returns : goal.returns
+returns c = λ nv live g. position_here g c.args.v _ c.at_u64-k.ensures _ c.at_u64.ensures (omega (arith, c.if-next-k.false)) c.if-at_u64-v.false
