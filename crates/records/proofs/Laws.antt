@@ -8,7 +8,7 @@ use native.Mathlib.Omega.{arith}
 use lib.Dec.{ltb}
 use lib.ListN.{length, take, drop}
 use borrow.Author.Tests.{ltb-true, ltb-false}
-use denote.Ref.{MutBor}
+use Rattle.std.specs.Borrow.{Bor}
 use Rattle.fields.specs.Cut.{end_from, split, nth}
 use Rattle.fields.proofs.Parts.{end_ge, at_last, at_more}
 use Rattle.records.specs.declared.Cut.{Cut}
@@ -46,10 +46,10 @@ reads_once {r = r} (part {ps = ps} e x) (part {start = a} {end = z} {to = n} f y
 abbrev step_at : ℕ → Reader → Read
 step_at b r = moved_past r (cut_at b r.text.now r.at)
 
-abbrev at : MutBor (List ℕ) → ℕ → Reader
+abbrev at : Bor (List ℕ) → ℕ → Reader
 at t p = record { text = t; at = p }
 
-module _ (b : ℕ) (t : MutBor (List ℕ)) where
+module _ (b : ℕ) (t : Bor (List ℕ)) where
   module _ (p e : ℕ) (h : p ≤ length t.now) (is : e ≡ end_from b p t.now) where
     reads_rest : length t.now ≤ e → Reads (step_at b) (at t p) (split b (drop p t.now))
     reads_rest l = rw (at_last b p e t.now h is l) (rest (cut_rest b p e t.now h is l))

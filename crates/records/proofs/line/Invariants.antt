@@ -1,11 +1,9 @@
 -- `line` meets its contract: the line that is asked for is the one so many lines after the place.
 use Prim.Native.Nat.{◌-◌, ◌≤◌, ◌<◌}
-use mathlib.Core.Path.{◌≡◌, sym, ◌∙◌}
-use native.Mathlib.Omega.{arith}
+use mathlib.Core.Path.{◌≡◌}
 use lib.ListN.{length, drop}
 use Rattle.fields.specs.Cut.{split}
 use Rattle.records.specs.Read.{placed, nth_cut, line_of}
-use Rattle.records.proofs.Cuts.{line_first, line_none, here, after_part, after_rest, after_end}
 use Rattle.records.proofs.line.Given as goal
 
 abbrev pub invariant-loop-left : goal.invariant-loop-left
