@@ -5,7 +5,7 @@ use mathlib.Core.Logic.{⊎_elim}
 use Prim.Native.Nat.{ℕ, ◌+◌, ◌*◌}
 use native.Mathlib.Omega.{arith}
 use borrow.Author.Tests.{lt-ltb, le-ltb}
-use lib.ListN.{get_or, take, length, length-take, get_or-eq_default}
+use lib.ListN.{get_or, take, length-take, get_or-eq_default}
 use lib.Seq.{get_or-take}
 use Rattle.cells.proofs.Rows.{lt_or_ge}
 use Rattle.tables.specs.Layout.{counted_cell}

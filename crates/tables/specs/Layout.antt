@@ -8,7 +8,7 @@
 --   B   4 cells   start and length of arguments, of operations
 --   R   2 cells   start and length of blocks
 --   F   1 cell    operation
-use Rattle.std.specs.Prelude.{ℕ, ◌+◌, ◌-◌, min, Bool, cond, List, [], ltb, eqb, take}
+use Rattle.std.specs.Prelude.{ℕ, ◌-◌, min, cond, List, ltb, eqb, take}
 use Rattle.cells.specs.Cell.{cell, span_at, entries_of, part_at}
 use Rattle.cells.specs.declared.Span.{Span}
 use Rattle.tables.specs.Sizes.{max_rank}

@@ -1,6 +1,6 @@
 -- "A value's defining place, read off the tables alone, is the block that lists it as argument and its position there, or else the
 -- operation and index of the declared result it claims."
-use Rattle.std.specs.Prelude.{ℕ, suc, Bool, cond, List, [], ◌∷◌, eqb}
+use Rattle.std.specs.Prelude.{ℕ, suc, cond, List, [], ◌∷◌, eqb}
 use Rattle.std.proofs.Math.Option.{Option, some, none}
 use Rattle.cells.specs.Lists.{below}
 use Rattle.tables.specs.Tables.{Tables, arguments, claim, declared}

@@ -1,12 +1,7 @@
 -- `power_of_two` meets its contract. The loop's invariant: x is a power of two exactly where it is one of those not looked at yet.
-use native.Mathlib.Omega.{arith}
-use Prim.Native.Nat.{ℕ, ◌-◌, ◌*◌, ◌%◌, ◌^◌, ◌≤◌}
-use mathlib.Core.Path.{◌≡◌, refl, sym, ap, ◌∙◌}
-use lib.Dec.{eqb}
-use mathlib.Core.Bool.{◌||◌}
-use borrow.Author.Tests.{eq-eqb, ne_eqb}
+use Prim.Native.Nat.{◌≤◌}
+use mathlib.Core.Path.{◌≡◌}
 use Rattle.arith.specs.Power.{power_below, is_power_of_two}
-use Rattle.arith.proofs.Powers.{shifted, pow_step}
 use Rattle.arith.proofs.power_of_two.Given as goal
 
 abbrev pub invariant-loop-k : goal.invariant-loop-k

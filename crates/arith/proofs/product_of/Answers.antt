@@ -1,10 +1,10 @@
 -- `product_of` meets its contract. The loop's invariant: the whole product is the product so far, times what is left.
 use Rattle.std.proofs.Common.{rules}
 use mathlib.Core.Path.{◌≡◌, refl, sym, ◌∙◌}
-use Prim.Native.Nat.{◌+◌, ◌-◌, ◌≤◌}
+use Prim.Native.Nat.{◌+◌}
 use native.Mathlib.Omega.{arith}
 use lib.IntN.{pos}
-use lib.ListN.{length, drop, get_or}
+use lib.ListN.{drop, get_or}
 use mir.Syntax.{w64}
 use mir.Val.{SFits, to_z}
 use mir.Facts.{to_z-of_z}
@@ -19,26 +19,28 @@ loop-i-init c =
 
 pub returns-in-Leaves : goal.returns-in-Leaves
 returns-in-Leaves c =
-    let called : c.times.result ≡ times_of (to_z w64 c.loop-i.all) (get_or c.args.dims.now c.loop-i.i (pos 0)) = let f : SFits w64 (get_or c.args.dims.now c.loop-i.i (pos 0)) = record { sfits = c.d-1.given } in
-    simp (to_z-of_z f) at c.times.ensures in
-    let step : product_of c.args.dims.now ≡ and_then c.times.result (λ p. times_all p (drop (c.loop-i.i + 1) c.args.dims.now)) = let l = c.loop-i in
-    l.invariant.1
-    ∙ all_step c.args.dims.now l.i (to_z w64 l.all) c.loop-i-test.true
-    ∙ rw called in
+    let f : SFits w64 (get_or c.args.dims.now c.loop-i.i (pos 0)) = search rules in
+    let called : c.times.result ≡ times_of (to_z w64 c.loop-i.all-bits) (get_or c.args.dims.now c.loop-i.i (pos 0)) =
+    simp (to_z-of_z f) at c.times.ensures
+    in
+    let step : product_of c.args.dims.now ≡ and_then c.times.result (λ p. times_all p (drop (c.loop-i.i + 1) c.args.dims.now)) =
+    c.loop-i.invariant.1 ∙ all_step c.args.dims.now c.loop-i.i (to_z w64 c.loop-i.all-bits) c.loop-i-test.true ∙ rw called
+    in
     sym (step ∙ simp c.in-Leaves.is)
 
 pub loop-i-preserved : goal.loop-i-preserved
 loop-i-preserved c =
-    let called : c.times.result ≡ times_of (to_z w64 c.loop-i.all) (get_or c.args.dims.now c.loop-i.i (pos 0)) = let f : SFits w64 (get_or c.args.dims.now c.loop-i.i (pos 0)) = record { sfits = c.d-1.given } in
-    simp (to_z-of_z f) at c.times.ensures in
-    let step : product_of c.args.dims.now ≡ and_then c.times.result (λ p. times_all p (drop (c.loop-i.i + 1) c.args.dims.now)) = let l = c.loop-i in
-    l.invariant.1
-    ∙ all_step c.args.dims.now l.i (to_z w64 l.all) c.loop-i-test.true
-    ∙ rw called in
-    let f : SFits w64 c.in-Is.p = search rules in
-    (search rules, step ∙ simp (c.in-Is.is, to_z-of_z f))
+    let f : SFits w64 (get_or c.args.dims.now c.loop-i.i (pos 0)) = search rules in
+    let called : c.times.result ≡ times_of (to_z w64 c.loop-i.all-bits) (get_or c.args.dims.now c.loop-i.i (pos 0)) =
+    simp (to_z-of_z f) at c.times.ensures
+    in
+    let step : product_of c.args.dims.now ≡ and_then c.times.result (λ p. times_all p (drop (c.loop-i.i + 1) c.args.dims.now)) =
+    c.loop-i.invariant.1 ∙ all_step c.args.dims.now c.loop-i.i (to_z w64 c.loop-i.all-bits) c.loop-i-test.true ∙ rw called
+    in
+    let g : SFits w64 c.in-Is.p = search rules in
+    (search rules, step ∙ simp (c.in-Is.is, to_z-of_z g))
 
 pub returns : goal.returns
 returns c =
     let l = c.loop-i in
-    sym (l.invariant.1 ∙ all_end c.args.dims.now l.i (to_z w64 l.all) (omega arith))
+    sym (l.invariant.1 ∙ all_end c.args.dims.now l.i (to_z w64 l.all-bits) (omega arith))

@@ -1,9 +1,9 @@
 -- `times` meets its contract: the product of the sizes is in the room exactly where the division says so.
 use mathlib.Core.Path.{◌≡◌, sym, ◌∙◌}
-use Prim.Native.Nat.{◌*◌, ◌<◌, ◌≤◌, ◌/◌}
+use Prim.Native.Nat.{◌*◌, ◌<◌, ◌≤◌}
 use native.Mathlib.Nat.{div-lt_iff_lt-mul, le-div_iff_mul-le}
 use native.Mathlib.Omega.{arith}
-use lib.IntN.{ℤ, nat_abs, ◌*ℤ◌}
+use lib.IntN.{nat_abs, ◌*ℤ◌}
 use mir.Syntax.{w64}
 use mir.Val.{SFits}
 use mir.Facts.{to_z-of_z}
@@ -19,24 +19,41 @@ returns-then-y-eq0 c =
 
 pub returns-then-limit-y : goal.returns-then-limit-y
 returns-then-limit-y c =
-    let right-size : c.size-y.result ≡ nat_abs c.args.b = simp (to_z-of_z c.ranges.b) at c.size-y.ensures in
-    let positive : 0 < nat_abs c.args.b = let e = right-size in omega arith in
-    sym (times_leaves (a c.before) (b c.before) (over c.before positive c.if-limit-y.true))
+    let left : c.size-x.result ≡ nat_abs c.args.a = simp (to_z-of_z c.ranges.a) at c.size-x.ensures in
+    let right : c.size-y.result ≡ nat_abs c.args.b = simp (to_z-of_z c.ranges.b) at c.size-y.ensures in
+    let limit : c.room-limit.result ≡ room_of c.args.a c.args.b =
+    simp (to_z-of_z c.ranges.a, to_z-of_z c.ranges.b) at c.room-limit.ensures
+    in
+    let positive : 0 < nat_abs c.args.b = omega arith in
+    let over : room_of c.args.a c.args.b < nat_abs c.args.a * nat_abs c.args.b =
+    (div-lt_iff_lt-mul positive).0 (rw (left, right, limit) at c.if-limit-y.true)
+    in
+    sym (times_leaves c.args.a c.args.b over)
 
 pub overflow_mul-result : goal.overflow_mul-result
 overflow_mul-result c =
-    let right-size : c.size-y.result ≡ nat_abs c.args.b = simp (to_z-of_z c.ranges.b) at c.size-y.ensures in
-    let positive : 0 < nat_abs c.args.b = let e = right-size in omega arith in
-    let inside : nat_abs (a c.before) * nat_abs (b c.before) ≤ room_of (a c.before) (b c.before) = under c.before positive c.if-limit-y.false in
-    let product-fits : SFits w64 (a c.before *ℤ b c.before) = record { sfits = within (a c.before) (b c.before) inside } in
-    let f = c.ranges in
-    simp (to_z-of_z f.a, to_z-of_z f.b) product-fits
+    let left : c.size-x.result ≡ nat_abs c.args.a = simp (to_z-of_z c.ranges.a) at c.size-x.ensures in
+    let right : c.size-y.result ≡ nat_abs c.args.b = simp (to_z-of_z c.ranges.b) at c.size-y.ensures in
+    let limit : c.room-limit.result ≡ room_of c.args.a c.args.b =
+    simp (to_z-of_z c.ranges.a, to_z-of_z c.ranges.b) at c.room-limit.ensures
+    in
+    let positive : 0 < nat_abs c.args.b = omega arith in
+    let inside : nat_abs c.args.a * nat_abs c.args.b ≤ room_of c.args.a c.args.b =
+    (le-div_iff_mul-le positive).0 (rw (left, right, limit) at c.if-limit-y.false)
+    in
+    let fits : SFits w64 (c.args.a *ℤ c.args.b) = record { sfits = within c.args.a c.args.b inside } in
+    simp (to_z-of_z c.ranges.a, to_z-of_z c.ranges.b) fits
 
 pub returns : goal.returns
 returns c =
-    let right-size : c.size-y.result ≡ nat_abs c.args.b = simp (to_z-of_z c.ranges.b) at c.size-y.ensures in
-    let positive : 0 < nat_abs c.args.b = let e = right-size in omega arith in
-    let inside : nat_abs (a c.before) * nat_abs (b c.before) ≤ room_of (a c.before) (b c.before) = under c.before positive c.if-limit-y.false in
-    let product-fits : SFits w64 (a c.before *ℤ b c.before) = record { sfits = within (a c.before) (b c.before) inside } in
-    let f = c.ranges in
-    simp (to_z-of_z f.a, to_z-of_z f.b, to_z-of_z product-fits, times_is (a c.before) (b c.before) inside)
+    let left : c.size-x.result ≡ nat_abs c.args.a = simp (to_z-of_z c.ranges.a) at c.size-x.ensures in
+    let right : c.size-y.result ≡ nat_abs c.args.b = simp (to_z-of_z c.ranges.b) at c.size-y.ensures in
+    let limit : c.room-limit.result ≡ room_of c.args.a c.args.b =
+    simp (to_z-of_z c.ranges.a, to_z-of_z c.ranges.b) at c.room-limit.ensures
+    in
+    let positive : 0 < nat_abs c.args.b = omega arith in
+    let inside : nat_abs c.args.a * nat_abs c.args.b ≤ room_of c.args.a c.args.b =
+    (le-div_iff_mul-le positive).0 (rw (left, right, limit) at c.if-limit-y.false)
+    in
+    let fits : SFits w64 (c.args.a *ℤ c.args.b) = record { sfits = within c.args.a c.args.b inside } in
+    simp (to_z-of_z c.ranges.a, to_z-of_z c.ranges.b, to_z-of_z fits, times_is c.args.a c.args.b inside)

@@ -1,8 +1,7 @@
 -- `clear_u64` leaves zeros, and the length. Assumes nothing.
-use native.Mathlib.Omega.{arith}
 use Prim.Native.Nat.{◌-◌}
 use lib.ListN.{length}
-use Rattle.cells.proofs.Parts.{Cleared, clear_start, clear_step, clear_end}
+use Rattle.cells.proofs.Parts.{Cleared}
 use Rattle.cells.proofs.clear_u64.Given as goal
 
 abbrev pub invariant-loop-i : goal.invariant-loop-i

@@ -1,10 +1,8 @@
 -- `part_at`: the entries from a cell on, as far as the table goes, for every row. Assumes nothing.
-use native.Mathlib.Omega.{arith}
-use Prim.Native.Nat.{ℕ, ◌+◌, ◌-◌, ◌*◌, ◌≤◌}
-use mathlib.Core.Path.{◌≡◌, ap, sym, ◌∙◌}
-use mathlib.Core.List.{List}
-use lib.ListN.{take, drop, length}
-use Rattle.cells.proofs.Rows.{drop_min, cells_whole}
+use Prim.Native.Nat.{◌+◌, ◌*◌, ◌≤◌}
+use mathlib.Core.Path.{sym, ◌∙◌}
+use lib.ListN.{length}
+use Rattle.cells.proofs.Rows.{cells_whole}
 use Rattle.cells.proofs.part_at.Goals as goal
 
 pub slice_bounds-result-end : goal.slice_bounds-result-end

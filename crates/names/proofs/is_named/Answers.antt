@@ -76,4 +76,4 @@ unfolding names
 returns-in_default c =
     let given = c.args in
     c.same-in_default.ensures
-    ∙ ap (λ (n : List ℕ). equal given.name.now n) (sym (unnamed given.number c.in_default-own.rest))
+    ∙ ap (λ (n : List ℕ). equal given.name.now n) (sym (unnamed given.number c.in_default.in_default-own.rest))

@@ -1,6 +1,6 @@
 -- `name_number` meets its contract: no name below the number has the bytes, so the search goes on from it.
 use native.Mathlib.Omega.{arith}
-use Prim.Native.Nat.{ℕ, ◌≤◌, ◌-◌}
+use Prim.Native.Nat.{ℕ}
 use mathlib.Core.Path.{◌≡◌, refl, sym, ap, ◌∙◌}
 use Rattle.names.specs.Names.{names, number_of, number_from}
 use Rattle.names.proofs.Bytes.{from, here, next}

@@ -1,10 +1,8 @@
 -- `same` meets its contract: what is left of the two lists is equal exactly where the wholes are.
-use Prim.Native.Nat.{ℕ, ◌≤◌, ◌-◌}
-use native.Mathlib.Omega.{arith}
-use mathlib.Core.Path.{◌≡◌, refl, sym, ap, ◌∙◌}
+use Prim.Native.Nat.{◌≤◌, ◌-◌}
+use mathlib.Core.Path.{◌≡◌}
 use lib.ListN.{length, drop}
 use Rattle.names.specs.Names.{equal}
-use Rattle.names.proofs.Bytes.{lengths_differ, differ, agree, ended}
 use Rattle.names.proofs.same.Given as goal
 
 abbrev pub invariant-loop-i : goal.invariant-loop-i

@@ -1,11 +1,8 @@
 -- `any_true` meets its contract: no entry before i is true, so the rest of the list decides.
-use native.Mathlib.Omega.{arith}
-use Prim.Native.Nat.{ℕ, ◌≤◌, ◌-◌}
-use mathlib.Core.Path.{◌≡◌, refl, sym, ap, ◌∙◌}
+use Prim.Native.Nat.{◌≤◌, ◌-◌}
+use mathlib.Core.Path.{◌≡◌}
 use lib.ListN.{length, drop}
-use lib.Seq.{drop-length}
 use Rattle.requirements.specs.Attribute.{any_true}
-use Rattle.requirements.proofs.Bools.{true_here, true_later}
 use Rattle.requirements.proofs.any_true.Given as goal
 
 abbrev pub invariant-loop-i : goal.invariant-loop-i

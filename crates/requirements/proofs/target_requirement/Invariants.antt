@@ -1,12 +1,8 @@
 -- `target_requirement` meets its contract: the two tables are the columns of the definition's targets, and no target before i has the sm.
-use native.Mathlib.Omega.{arith}
-use Prim.Native.Nat.{ℕ, ◌≤◌, ◌-◌}
-use mathlib.Core.Path.{◌≡◌, refl, sym, ap, ◌∙◌}
-use mathlib.Core.List.{map}
-use lib.ListN.{drop, get_or-map}
-use Rattle.requirements.specs.declared.Asked.TheVariants.{Feature}
-use Rattle.requirements.specs.Target.{targets, find_in, sm_of, feature_of, target_feature}
-use Rattle.requirements.proofs.Tables.{no_target, here, next, all_bytes, byte}
+use Prim.Native.Nat.{◌≤◌, ◌-◌}
+use mathlib.Core.Path.{◌≡◌}
+use lib.ListN.{drop}
+use Rattle.requirements.specs.Target.{targets, find_in, target_feature}
 use Rattle.requirements.proofs.target_requirement.Given as goal
 
 abbrev pub invariant-loop-i : goal.invariant-loop-i

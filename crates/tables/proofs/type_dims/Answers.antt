@@ -1,7 +1,7 @@
 -- `type_dims`: as many dims as the rank says, and no more than eight. Assumes nothing.
 use native.Mathlib.Omega.{arith}
 use mathlib.Core.Path.{◌≡◌, ap, ◌∙◌}
-use Prim.Native.Nat.{ℕ, min}
+use Prim.Native.Nat.{min}
 use Rattle.cells.specs.Cell.{part_at}
 use Rattle.tables.specs.Layout.{dims_in, rank_in}
 use Rattle.tables.proofs.type_dims.Goals as goal

@@ -6,9 +6,9 @@ use Rattle.tables.proofs.type_pointer.Goals as goal
 pub returns-then-type_form-eq0 : goal.returns-then-type_form-eq0
 unfolding pointer_in
 returns-then-type_form-eq0 c =
-    rw (← c.type_form_lem.ensures, eq-eqb _ _ c.if-type_form-eq0.true)
+    rw (← c.type_form.ensures, eq-eqb _ _ c.if-type_form-eq0.true)
 
 pub returns : goal.returns
 unfolding pointer_in
 returns c =
-    rw (← c.type_form_lem.ensures, ne_eqb _ _ c.if-type_form-eq0.false) c.counted_u64.ensures
+    rw (← c.type_form.ensures, ne_eqb _ _ c.if-type_form-eq0.false) c.counted_u64.ensures
