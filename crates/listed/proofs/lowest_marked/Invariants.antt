@@ -1,14 +1,11 @@
 -- `lowest_marked`: a search for a mark above 1. Assumes nothing.
 use Prim.Native.Nat.{◌-◌}
-use native.Mathlib.Omega.{arith}
-use mathlib.Core.Path.{◌≡◌, sym, ap, ◌∙◌}
+use mathlib.Core.Path.{◌≡◌}
 use lib.Dec.{ltb}
 use lib.ListN.{get_or}
-use borrow.Author.Tests.{lt-ltb, le-ltb}
 use Rattle.cells.specs.Lists.{find}
 use Rattle.listed.specs.Marks.{lowest_marked}
-use Rattle.listed.specs.Twice.{refused}
-use Rattle.listed.proofs.Find.{later, later_start, find_step, find_stop, find_end}
+use Rattle.listed.proofs.Find.{later}
 use Rattle.listed.proofs.lowest_marked.Given as goal
 
 abbrev pub invariant-loop-id : goal.invariant-loop-id

@@ -1,8 +1,7 @@
 -- `mark_blocks`: what is left of the regions' blocks leads to the same marks. Assumes nothing.
 use Prim.Native.Nat.{◌-◌}
-use native.Mathlib.Omega.{arith}
 use Rattle.tables.specs.Layout.{blocks_in}
-use Rattle.listed.proofs.Marks.{Marking, lists_start, lists_step, lists_end}
+use Rattle.listed.proofs.Marks.{Marking}
 use Rattle.listed.proofs.mark_blocks.Given as goal
 
 abbrev pub invariant-loop-k : goal.invariant-loop-k

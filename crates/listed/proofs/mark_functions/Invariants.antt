@@ -1,11 +1,9 @@
 -- `mark_functions`: what is left of the functions leads to the same marks. Assumes nothing.
 use Prim.Native.Nat.{◌-◌}
-use native.Mathlib.Omega.{arith}
-use mathlib.Core.Path.{◌≡◌, refl, ◌∙◌}
-use lib.ListN.{length, drop, length-take}
+use mathlib.Core.Path.{◌≡◌}
+use lib.ListN.{length, drop}
 use Rattle.tables.specs.Layout.{functions_in}
 use Rattle.listed.specs.Marks.{mark_all}
-use Rattle.listed.proofs.Marks.{list_step, list_end}
 use Rattle.listed.proofs.mark_functions.Given as goal
 
 abbrev pub invariant-loop-i : goal.invariant-loop-i

@@ -1,10 +1,8 @@
 -- `mark_list`: what is left of the list leads to the same marks. Assumes nothing.
 use Prim.Native.Nat.{◌-◌}
-use native.Mathlib.Omega.{arith}
-use mathlib.Core.Path.{◌≡◌, refl, ◌∙◌}
+use mathlib.Core.Path.{◌≡◌}
 use lib.ListN.{length, drop}
 use Rattle.listed.specs.Marks.{mark_all}
-use Rattle.listed.proofs.Marks.{list_step, list_end}
 use Rattle.listed.proofs.mark_list.Given as goal
 
 abbrev pub invariant-loop-i : goal.invariant-loop-i

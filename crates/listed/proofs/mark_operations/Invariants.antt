@@ -1,8 +1,7 @@
 -- `mark_operations`: what is left of the blocks' operations leads to the same marks. Assumes nothing.
 use Prim.Native.Nat.{◌-◌}
-use native.Mathlib.Omega.{arith}
 use Rattle.tables.specs.Layout.{operations_in}
-use Rattle.listed.proofs.Marks.{Marking, lists_start, lists_step, lists_end}
+use Rattle.listed.proofs.Marks.{Marking}
 use Rattle.listed.proofs.mark_operations.Given as goal
 
 abbrev pub invariant-loop-j : goal.invariant-loop-j

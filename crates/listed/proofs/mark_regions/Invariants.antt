@@ -1,8 +1,7 @@
 -- `mark_regions`: what is left of the operations' regions leads to the same marks. Assumes nothing.
 use Prim.Native.Nat.{◌-◌}
-use native.Mathlib.Omega.{arith}
 use Rattle.tables.specs.Layout.{regions_in}
-use Rattle.listed.proofs.Marks.{Marking, lists_start, lists_step, lists_end}
+use Rattle.listed.proofs.Marks.{Marking}
 use Rattle.listed.proofs.mark_regions.Given as goal
 
 abbrev pub invariant-loop-i : goal.invariant-loop-i
