@@ -1,6 +1,6 @@
 -- The walk: region visits blocks, block visits operations, operation visits regions. Each loop judges and writes the ids of one list; the
 -- functions' list stands in no answer, so what is shown holds with any. Assumes nothing.
-use Rattle.std.proofs.Common.{◌≡◌, refl, ap, ◌∙◌, ℕ, List, length}
+use Rattle.std.proofs.Common.{refl, ap, ◌∙◌, ℕ, List, length}
 use Rattle.tables.specs.Tables.{Tables, nest}
 use Rattle.walk.proofs.Visits.{going_deep, going_more, going_at, going_end, block_visited, operation_visited, leaf_visited, region_visited, region_passed, region_refused}
 use Rattle.walk.proofs.+visit_block_visit_operation_visit_region.Goals as goal
@@ -20,9 +20,9 @@ visit_block-loop-i-preserved t c =
     let lp = c.loop-i in
     let h = c.loop-i-test.true in
     elim c.if-regions_span-eq0.branch [
-      visit_block-then-regions_span-eq0 w ↦
+      | visit_block-then-regions_span-eq0 w ↦
           (ap length w.out-is ∙ w.push_id-next.auto.out ∙ lp.invariant.0, λ f. going_at w.out-is w.next-is (going_more (lp.invariant.1 f) h (leaf_visited (x f) a.depth _ w.push_id-next.ensures c.regions_span.ensures w.if-regions_span-eq0.true) refl))
-    | visit_block-else-regions_span-eq0+in-Fine w ↦
+      | visit_block-else-regions_span-eq0+in-Fine w ↦
           (ap length w.out-is ∙ w.visit_operation.auto.out ∙ lp.invariant.0, λ f. going_at w.out-is w.next-is (going_more (lp.invariant.1 f) h (w.visit_operation.ensures f) w.in-Fine.is))
     ]
 

@@ -1,5 +1,5 @@
 -- `visit_functions`: the functions in order, each with 32 depths left. Assumes nothing.
-use Rattle.std.proofs.Common.{◌<◌, ◌≤◌, ◌≡◌, refl, sym, ◌∙◌, length, arith}
+use Rattle.std.proofs.Common.{◌<◌, ◌≤◌, refl, sym, ◌∙◌, length, arith}
 use Rattle.tables.specs.Layout.{functions_in}
 use Rattle.walk.specs.Order.{order_to}
 use Rattle.walk.specs.Depth.{too_deep}

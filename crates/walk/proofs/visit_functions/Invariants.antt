@@ -1,14 +1,13 @@
 -- `visit_functions`: the functions in order, each with 32 depths left. Assumes nothing.
-use native.Mathlib.Omega.{arith}
-use Prim.Native.Nat.{◌-◌, ◌<◌, ◌≤◌}
-use mathlib.Core.Path.{◌≡◌, refl, sym, ◌∙◌}
+use Prim.Native.Nat.{◌-◌}
+use mathlib.Core.Path.{◌≡◌}
 use lib.ListN.{length}
 use Rattle.tables.specs.Sizes.{max_depth}
 use Rattle.tables.specs.Tables.{nest, functions}
 use Rattle.tables.specs.Layout.{functions_in}
-use Rattle.walk.specs.Order.{operation_order, region_order, order_to}
-use Rattle.walk.specs.Depth.{operation_depth, region_depth, too_deep}
-use Rattle.walk.proofs.Visits.{Going, going_start, going_deep, going_more, going_end, functions_counted}
+use Rattle.walk.specs.Order.{operation_order, region_order}
+use Rattle.walk.specs.Depth.{operation_depth, region_depth}
+use Rattle.walk.proofs.Visits.{Going}
 use Rattle.walk.proofs.visit_functions.Given as goal
 
 abbrev pub invariant-loop-i : goal.invariant-loop-i
