@@ -4,7 +4,6 @@ use mathlib.Core.List.{List, [], ◌∷◌}
 use mathlib.Core.Logic.{⊎_elim}
 use mathlib.Core.Path.{◌≡◌, refl, sym, ◌∙◌, ap}
 use native.Mathlib.Omega.{arith}
-use native.Mathlib.Numerals.{add-one}
 use lib.ListN.{length, take, drop, drop_of_length-le}
 use lib.Seq.{take-nil}
 use Rattle.cells.proofs.Rows.{lt_or_ge}

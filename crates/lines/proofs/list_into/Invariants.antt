@@ -1,12 +1,10 @@
 -- `list_into` meets its contract: what the items from the cursor on give, after those before it, is what the whole list gives.
-use native.Mathlib.Omega.{arith}
-use Prim.Native.Nat.{ℕ, ◌+◌, ◌-◌, ◌≤◌}
-use mathlib.Core.Path.{◌≡◌, refl, ◌∙◌, ap}
+use Prim.Native.Nat.{◌-◌, ◌≤◌}
+use mathlib.Core.Path.{◌≡◌}
 use lib.ListN.{length, drop}
 use Rattle.fields.specs.Cut.{split}
-use Rattle.lines.specs.Into.{number_in, left}
-use Rattle.lines.specs.declared.Listed.TheVariants.{Count}
-use Rattle.lines.proofs.Lists.{run, list_none, list_some, list_stops, list_on, list_ends, list_goes}
+use Rattle.lines.specs.Into.{number_in}
+use Rattle.lines.proofs.Lists.{run}
 use Rattle.lines.proofs.list_into.Given as goal
 
 abbrev pub invariant-loop-x : goal.invariant-loop-x
