@@ -1,7 +1,7 @@
 -- An element of an array of i64 fits an i64. `search fits` finds it in what a parameter or a call's result is known to be.
 use mathlib.Core.Path.{subst}
 use mathlib.Core.List.{List, [], ◌∷◌, map, map-id}
-use Prim.Native.Nat.{ℕ, zero, suc, ◌<◌}
+use Prim.Native.Nat.{ℕ, zero, suc}
 use lib.Dec.{lit<}
 use lib.ListN.{get_or}
 use lib.IntN.{ℤ, pos}

@@ -1,16 +1,9 @@
 -- `dims_of` meets its contract: each dim before i stands in its place.
-use mathlib.Core.Path.{◌≡◌, refl, sym, ap, ◌∙◌}
+use mathlib.Core.Path.{◌≡◌}
 use Prim.Native.Nat.{ℕ, ◌-◌, ◌≤◌, ◌<◌}
-use native.Mathlib.Omega.{arith}
 use lib.IntN.{pos}
-use lib.ListN.{length, get_or, drop, length-set, length-drop}
-use lib.Seq.{get_or-drop, take_all}
-use mir.Syntax.{w64}
-use mir.Val.{SFits}
-use mir.Facts.{to_z-of_z}
+use lib.ListN.{length, get_or, drop}
 use Rattle.arith.specs.Signed.{signed_of}
-use Rattle.tiles.proofs.Dims.{fill_step, eight_is}
-use Rattle.tiles.specs.Tile.{eight_of}
 use Rattle.tiles.proofs.dims_of.Given as goal
 
 abbrev pub invariant-loop-i : goal.invariant-loop-i

@@ -1,14 +1,9 @@
 -- `eight` meets its contract: each number before i stands in its place.
-use mathlib.Core.Path.{◌≡◌, refl, ap, ◌∙◌}
+use mathlib.Core.Path.{◌≡◌}
 use Prim.Native.Nat.{ℕ, ◌-◌, ◌≤◌, ◌<◌}
-use native.Mathlib.Omega.{arith}
 use lib.IntN.{pos}
-use lib.ListN.{length, get_or, length-set}
-use mir.Syntax.{w64}
-use mir.Val.{SFits}
-use mir.Facts.{to_z-of_z}
+use lib.ListN.{length, get_or}
 use Rattle.arith.specs.Signed.{signed_of}
-use Rattle.tiles.proofs.Dims.{fill_step, eight_is}
 use Rattle.tiles.proofs.eight.Given as goal
 
 abbrev pub invariant-loop-i : goal.invariant-loop-i

@@ -1,9 +1,6 @@
 -- `has_axes` meets its contract: every axis from left on is there, so those below it decide.
-use mathlib.Core.Path.{◌≡◌, refl, sym, ◌∙◌}
-use native.Mathlib.Omega.{arith}
-use borrow.Author.Tests.{not-true, not-false}
+use mathlib.Core.Path.{◌≡◌}
 use Rattle.tiles.specs.Rules.{has_axes}
-use Rattle.tiles.proofs.Axes.{axes_step, axes_none}
 use Rattle.tiles.proofs.has_axes.Given as goal
 
 abbrev pub invariant-loop-left : goal.invariant-loop-left

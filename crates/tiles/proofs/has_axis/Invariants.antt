@@ -1,10 +1,8 @@
 -- `has_axis` meets its contract: no entry before i is the axis, so the rest of the entries decides.
-use mathlib.Core.Path.{◌≡◌, refl, sym, ◌∙◌}
+use mathlib.Core.Path.{◌≡◌}
 use Prim.Native.Nat.{◌-◌, ◌≤◌}
-use native.Mathlib.Omega.{arith}
 use lib.ListN.{length, drop}
 use Rattle.cells.specs.Lists.{mem}
-use Rattle.tiles.proofs.Axes.{axis_here, axis_later, axis_end}
 use Rattle.tiles.proofs.has_axis.Given as goal
 
 abbrev pub invariant-loop-i : goal.invariant-loop-i

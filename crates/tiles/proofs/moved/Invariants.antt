@@ -1,11 +1,8 @@
 -- `moved` meets its contract: every dim before i is moved as its entry says, so the rest of the entries decides.
-use mathlib.Core.Path.{◌≡◌, refl, sym, ◌∙◌}
+use mathlib.Core.Path.{◌≡◌}
 use Prim.Native.Nat.{◌-◌, ◌≤◌}
-use native.Mathlib.Omega.{arith}
 use lib.ListN.{length, drop}
-use borrow.Author.Tests.{not-true, not-false}
 use Rattle.tiles.specs.Rules.{moved_from}
-use Rattle.tiles.proofs.Axes.{moved_not, moved_later, moved_end}
 use Rattle.tiles.proofs.moved.Given as goal
 
 abbrev pub invariant-loop-i : goal.invariant-loop-i

@@ -1,19 +1,12 @@
 -- `some_outside` meets its contract: every size before i is one of its axis, so the rest of the sizes decides.
-use mathlib.Core.Path.{◌≡◌, refl, sym, ◌∙◌}
+use mathlib.Core.Path.{◌≡◌}
 use mathlib.Core.List.{map}
-use Prim.Native.Nat.{◌-◌, ◌≤◌, ◌<◌, min}
-use native.Mathlib.Omega.{arith}
-use lib.IntN.{pos}
-use lib.ListN.{length, drop, get_or, length-map}
-use mir.Syntax.{w64}
-use mir.Val.{SFits}
-use mir.Facts.{to_z-of_z}
+use Prim.Native.Nat.{◌-◌, ◌≤◌, min}
+use lib.ListN.{length, drop}
 use Rattle.arith.specs.Signed.{signed_of}
-use Rattle.tiles.specs.Tile.{dims_of, rank_of, dim_of}
+use Rattle.tiles.specs.Tile.{dims_of, rank_of}
 use Rattle.tiles.specs.Shape.{any_pair}
 use Rattle.tiles.specs.Rules.{outside_dim}
-use Rattle.tiles.proofs.Pairs.{any_here, any_later, any_end}
-use Rattle.tiles.proofs.Dims.{signed_at}
 use Rattle.tiles.proofs.some_outside.Given as goal
 
 abbrev pub invariant-loop-i : goal.invariant-loop-i

@@ -1,18 +1,9 @@
 -- `stretched` meets its contract: every dim before i is taken to the other, so the rest of the dims decides.
-use mathlib.Core.Path.{◌≡◌, refl, sym, ◌∙◌}
-use Prim.Native.Nat.{◌-◌, ◌≤◌, ◌<◌, min}
-use native.Mathlib.Omega.{arith}
-use lib.IntN.{pos}
-use lib.ListN.{length, drop, get_or}
-use borrow.Author.Tests.{not-true, not-false}
-use mir.Syntax.{w64}
-use mir.Val.{SFits}
-use mir.Facts.{to_z-of_z}
-use Rattle.tiles.specs.Tile.{dims_of, rank_of, dim_of}
-use Rattle.tiles.specs.Shape.{all_pairs, stretches_to, is_stretched}
-use Rattle.tiles.proofs.Elements.{fits}
-use Rattle.tiles.proofs.Dims.{rank_is, dim_is}
-use Rattle.tiles.proofs.Pairs.{all_not, all_later, all_end}
+use mathlib.Core.Path.{◌≡◌}
+use Prim.Native.Nat.{◌-◌, ◌≤◌, min}
+use lib.ListN.{drop}
+use Rattle.tiles.specs.Tile.{dims_of, rank_of}
+use Rattle.tiles.specs.Shape.{all_pairs, stretches_to}
 use Rattle.tiles.proofs.stretched.Given as goal
 
 abbrev pub invariant-loop-i : goal.invariant-loop-i

@@ -1,17 +1,9 @@
 -- `uneven` meets its contract: every dim before i divides, so the rest of the dims decides.
-use mathlib.Core.Path.{◌≡◌, refl, sym, ◌∙◌}
-use Prim.Native.Nat.{◌-◌, ◌≤◌, ◌<◌, min}
-use native.Mathlib.Omega.{arith}
-use lib.IntN.{pos}
-use lib.ListN.{length, drop, get_or}
-use mir.Syntax.{w64}
-use mir.Val.{SFits}
-use mir.Facts.{to_z-of_z}
-use Rattle.tiles.specs.Tile.{dims_of, rank_of, dim_of}
-use Rattle.tiles.specs.Shape.{any_pair, undivided_by, is_uneven}
-use Rattle.tiles.proofs.Elements.{fits}
-use Rattle.tiles.proofs.Dims.{rank_is, dim_is}
-use Rattle.tiles.proofs.Pairs.{any_here, any_later, any_end}
+use mathlib.Core.Path.{◌≡◌}
+use Prim.Native.Nat.{◌-◌, ◌≤◌, min}
+use lib.ListN.{drop}
+use Rattle.tiles.specs.Tile.{dims_of, rank_of}
+use Rattle.tiles.specs.Shape.{any_pair, undivided_by}
 use Rattle.tiles.proofs.uneven.Given as goal
 
 abbrev pub invariant-loop-i : goal.invariant-loop-i

@@ -1,0 +1,13 @@
+-- `same_product` meets its contract: by what the products are.
+use Rattle.std.proofs.Common.{rules}
+use mathlib.Core.Path.{sym, ◌∙◌}
+use mir.Syntax.{w64}
+use mir.Val.{SFits}
+use Rattle.tiles.proofs.Equal.{bits_test}
+use Rattle.tiles.proofs.same_product.Goals as goal
+
+pub returns-in-Is-q : goal.returns-in-Is-q
+returns-in-Is-q c =
+    let f : SFits w64 c.in-Is.x = search rules in
+    let g : SFits w64 c.in-Is-q.y = search rules in
+    bits_test f g ∙ sym (rw (c.in-Is.is, c.in-Is-q.is))
