@@ -118,8 +118,8 @@ above_one {base} {live} p a = ⊎_elim
     (lt_or_ge (length live) 8192)
 
 pub above_all : {base live : List Place} (ps : List Place) → Above base live → Above base (grow_all live ps)
-above_all [] a = a
-above_all (p ∷ ps) a = above_all ps (above_one p a)
+above_all {live = live} [] a = a
+above_all {base = base} {live = live} (p ∷ ps) a = above_all {live = grow live p} ps (above_one p a)
 
 pub shows_less : {stack : List ℕ} {next m : ℕ} {base live : List Place} → Above base live → length base ≡ m → Shows stack next live → Shows stack m base
 shows_less {stack} {next} {m} {base} {live} a e s =
