@@ -1,11 +1,8 @@
 -- `all_signed32`: every entry is a signed number of 32 bits. Assumes nothing.
-use mathlib.Core.Path.{sym, ◌∙◌}
 use Prim.Native.Nat.{◌-◌}
 use lib.ListN.{length}
-use native.Mathlib.Omega.{arith}
-use borrow.Author.Tests.{not-true, not-false}
 use Rattle.ranges.specs.Entry.{signed32}
-use Rattle.ranges.proofs.Find.{Along, along_start, along_step, along_stop, along_end}
+use Rattle.ranges.proofs.Find.{Along}
 use Rattle.ranges.proofs.all_signed32.Given as goal
 
 abbrev pub invariant-loop-i : goal.invariant-loop-i

@@ -1,10 +1,9 @@
 -- `check_values`: entry by entry, up to the first that is out of range. Assumes nothing.
 use Prim.Native.Nat.{◌-◌}
-use native.Mathlib.Omega.{arith}
 use Rattle.ranges.specs.Entry.{good_value}
 use Rattle.ranges.specs.Part.{tables_of_values}
-use Rattle.ranges.proofs.Find.{Passed, pass_start}
-use Rattle.ranges.proofs.Scan.{bad, check_step, check_stop, check_end}
+use Rattle.ranges.proofs.Find.{Passed}
+use Rattle.ranges.proofs.Scan.{bad}
 use Rattle.ranges.proofs.check_values.Given as goal
 
 abbrev pub invariant-loop-i : goal.invariant-loop-i

@@ -1,15 +1,15 @@
 -- `scan_blocks`: entry by entry, with the list entries so far. Assumes nothing.
 use Prim.Native.Nat.{◌-◌}
-use native.Mathlib.Omega.{arith}
 use Rattle.ranges.specs.Entry.{good_block}
 use Rattle.ranges.specs.Range.{listed_by_block}
 use Rattle.ranges.specs.Part.{tables_of_blocks}
-use Rattle.ranges.proofs.Scan.{Scan, scan_start, scan_step, scan_stop, scan_end}
+use Rattle.ranges.proofs.Scan.{Scan}
 use Rattle.ranges.proofs.scan_blocks.Given as goal
 
 abbrev pub invariant-loop-i : goal.invariant-loop-i
 invariant-loop-i z =
-    tables_of_blocks z.b z.l z.n in Scan 512 4 z.b z.n.blocks (good_block x) (listed_by_block x) z.before z.used z.i
+    let x = tables_of_blocks z.b z.l z.n in
+    Scan 512 4 z.b z.n.blocks (good_block x) (listed_by_block x) z.before z.used z.i
 
 abbrev pub decreases-loop-i : goal.decreases-loop-i
 decreases-loop-i z = z.n.blocks - z.i
