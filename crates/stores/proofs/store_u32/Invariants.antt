@@ -1,11 +1,8 @@
 -- `store_u32` meets its contract: the cells that are left, written after those that are, are the whole row.
-use native.Mathlib.Omega.{arith}
 use Prim.Native.Nat.{◌+◌, ◌-◌, ◌≤◌}
-use mathlib.Core.Path.{◌≡◌, refl, ◌∙◌, ap}
+use mathlib.Core.Path.{◌≡◌}
 use lib.ListN.{length, drop}
 use lib.Seq.{sets}
-use Rattle.lines.proofs.Lists.{sets_min}
-use Rattle.stores.proofs.Stores.{row_start, row_step, row_end}
 use Rattle.stores.proofs.store_u32.Given as goal
 
 abbrev pub invariant-loop-i : goal.invariant-loop-i
