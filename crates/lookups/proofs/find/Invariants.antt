@@ -1,13 +1,8 @@
 -- `find` meets its contract: what is left of the attributes answers the same.
-use Prim.Native.Nat.{◌+◌, ◌-◌, ◌≤◌, ◌<◌}
-use native.Mathlib.Omega.{arith}
-use mathlib.Core.Path.{◌≡◌, refl, sym, ap, ◌∙◌}
-use mathlib.Core.Bool.{Bool, cond}
-use mathlib.Core.Option.{some}
+use Prim.Native.Nat.{◌+◌, ◌≤◌}
+use mathlib.Core.Path.{◌≡◌}
 use Rattle.cells.specs.Lists.{from, find as find_in}
-use Rattle.cells.specs.declared.Span.{Span}
 use Rattle.lookups.specs.Lookup.{is_entry, entered, entry_in}
-use Rattle.lookups.proofs.Search.{ends, find_step, find_end}
 use Rattle.lookups.proofs.find.Given as goal
 
 abbrev pub invariant-loop-left : goal.invariant-loop-left
