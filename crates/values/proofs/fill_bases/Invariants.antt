@@ -1,12 +1,10 @@
 -- `fill_bases`: the sum so far is the next base, and those before stand. Assumes nothing.
 use Prim.Native.Nat.{◌-◌, ◌≤◌}
-use native.Mathlib.Omega.{arith}
-use mathlib.Core.Path.{◌≡◌, refl, ap, ◌∙◌}
+use mathlib.Core.Path.{◌≡◌}
 use mathlib.Core.List.{[]}
 use lib.ListN.{length}
 use Rattle.tables.specs.Tables.{lent}
 use Rattle.values.specs.Claims.{base_of, fill_below}
-use Rattle.values.proofs.Steps.{base_start, base_step, fill_step}
 use Rattle.values.proofs.fill_bases.Given as goal
 
 abbrev pub invariant-loop-i : goal.invariant-loop-i

@@ -1,15 +1,16 @@
 -- `fill_claims`: the claims of the values from the last on, down to the first. Assumes nothing.
-use Prim.Native.Nat.{ℕ, ◌+◌, ◌-◌, ◌≤◌}
-use native.Mathlib.Omega.{arith}
-use mathlib.Core.Path.{◌≡◌, refl, ap, ◌∙◌}
+use Prim.Native.Nat.{ℕ, ◌+◌, ◌≤◌}
+use mathlib.Core.Path.{◌≡◌}
 use mathlib.Core.List.{List, []}
 use lib.ListN.{length}
 use Rattle.tables.specs.Tables.{Tables, lent, declared, claim}
-use Rattle.tables.specs.declared.Claim.{Claim}
 use Rattle.listed.proofs.Find.{later}
 use Rattle.values.specs.Claims.{put_claim, claims_by}
-use Rattle.values.proofs.Steps.{claims_start, claims_step, claims_end}
 use Rattle.values.proofs.fill_claims.Given as goal
+
+-- what is done for one value
+abbrev pub put : Tables → List ℕ → ℕ → List ℕ → List ℕ
+put x bases v = put_claim (declared x) bases (v + 1) (claim x v)
 
 abbrev pub invariant-loop-number : goal.invariant-loop-number
 invariant-loop-number z =
