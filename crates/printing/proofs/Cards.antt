@@ -1,6 +1,6 @@
 -- Lines by computation: case M's numbers and places, a function without operands, and a refusal.
 use mathlib.Core.Path.{◌≡◌, refl}
-use mathlib.Core.List.{List, [], ◌∷◌}
+use mathlib.Core.List.{[], ◌∷◌}
 use Rattle.names.specs.Names.{bytes}
 use Rattle.printing.specs.Lines.{number_lines, place_lines, no_line, lines, line, parted, others, mark_at, decimal, decimal_in}
 

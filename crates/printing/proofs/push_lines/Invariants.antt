@@ -1,12 +1,9 @@
 -- `push_lines` meets its contract. The loop's invariant: the lines still to be laid, from here, give all of them from the start.
-use native.Mathlib.Omega.{arith}
-use Prim.Native.Nat.{ℕ, ◌+◌, ◌-◌, ◌≤◌}
-use mathlib.Core.Path.{◌≡◌, refl, sym, ap, ◌∙◌}
-use mathlib.Core.List.{List}
-use lib.ListN.{length, take, drop, get_or}
-use Rattle.printing.specs.Laid.{State, state, laid}
-use Rattle.printing.specs.Lines.{line, lines}
-use Rattle.printing.proofs.Laws.{lines_step, lines_end}
+use Prim.Native.Nat.{◌-◌, ◌≤◌}
+use mathlib.Core.Path.{◌≡◌}
+use lib.ListN.{length, drop}
+use Rattle.printing.specs.Laid.{state, laid}
+use Rattle.printing.specs.Lines.{lines}
 use Rattle.printing.proofs.push_lines.Given as goal
 
 abbrev pub invariant-loop-i : goal.invariant-loop-i

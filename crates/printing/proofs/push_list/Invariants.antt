@@ -1,12 +1,9 @@
 -- `push_list` meets its contract. The loop's invariant: what is still to be laid, from here, gives what was to be laid after the first entry.
-use native.Mathlib.Omega.{arith}
-use Prim.Native.Nat.{ℕ, ◌+◌, ◌-◌, ◌≤◌}
-use mathlib.Core.Path.{◌≡◌, refl, sym, ap, ◌∙◌}
-use mathlib.Core.List.{List}
-use lib.ListN.{length, drop, get_or}
-use Rattle.printing.specs.Laid.{state, pushed, laid}
-use Rattle.printing.specs.Lines.{decimal, others}
-use Rattle.printing.proofs.Laws.{parted_none, parted_first, others_step, others_end}
+use Prim.Native.Nat.{◌-◌, ◌≤◌}
+use mathlib.Core.Path.{◌≡◌}
+use lib.ListN.{length, drop}
+use Rattle.printing.specs.Laid.{state, laid}
+use Rattle.printing.specs.Lines.{others}
 use Rattle.printing.proofs.push_list.Given as goal
 
 abbrev pub invariant-loop-i : goal.invariant-loop-i
