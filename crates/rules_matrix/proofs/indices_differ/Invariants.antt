@@ -1,13 +1,8 @@
 -- `indices_differ` meets its contract: as many operands as dims, each before k an index, so the rest of them decides.
-use Prim.Native.Nat.{◌+◌, ◌-◌, ◌≤◌, ◌<◌}
-use native.Mathlib.Omega.{arith}
-use mathlib.Core.Path.{◌≡◌, refl, sym, ap, ◌∙◌}
-use mathlib.Core.Bool.{not}
-use lib.ListN.{length}
+use Prim.Native.Nat.{◌+◌, ◌-◌, ◌≤◌}
+use mathlib.Core.Path.{◌≡◌}
 use Rattle.cells.specs.Lists.{from}
-use Rattle.tables.specs.Layout.{operands_in}
-use Rattle.rules_matrix.specs.Part.{any, is_no_index, indices_differ}
-use Rattle.rules_matrix.proofs.Indices.{operand_is, any_here, any_later, any_end, other_count, same_count}
+use Rattle.rules_matrix.specs.Part.{any, is_no_index}
 use Rattle.rules_matrix.proofs.indices_differ.Given as goal
 
 abbrev pub invariant-loop-k : goal.invariant-loop-k
