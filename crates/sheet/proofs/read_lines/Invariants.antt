@@ -1,13 +1,10 @@
 -- `read_lines` meets its contract: the lines from the cursor on, after those before it, give what the whole text gives.
-use native.Mathlib.Omega.{arith}
 use Prim.Native.Nat.{◌+◌, ◌-◌, ◌≤◌}
-use mathlib.Core.Path.{◌≡◌, refl, ◌∙◌, ap}
+use mathlib.Core.Path.{◌≡◌}
 use lib.ListN.{length, drop}
 use Rattle.fields.specs.Cut.{split}
-use Rattle.fields.proofs.Parts.{end_ge}
 use Rattle.tables.specs.declared.Answer.TheVariants.{Accepted}
-use Rattle.sheet.specs.Sheet.{state, lines_of, fresh, ended}
-use Rattle.sheet.proofs.Whole.{at_end, at_far, at_bad, at_row}
+use Rattle.sheet.specs.Sheet.{state, lines_of, fresh}
 use Rattle.sheet.proofs.read_lines.Given as goal
 
 abbrev pub invariant-loop-last : goal.invariant-loop-last
