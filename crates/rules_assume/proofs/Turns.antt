@@ -3,7 +3,7 @@ use Prim.Native.Nat.{ℕ, zero, suc, ◌+◌, ◌-◌, ◌≤◌, ◌<◌}
 use native.Mathlib.Numerals.{add-one, sub-one}
 use native.Mathlib.Omega.{arith}
 use mathlib.Core.Path.{◌≡◌, refl}
-use mathlib.Core.Bool.{Bool, true, false}
+use mathlib.Core.Bool.{true, false}
 use Rattle.cells.specs.Lists.{from}
 use Rattle.lookups.specs.declared.Verdict.{Verdict}
 use Rattle.lookups.specs.declared.Verdict.TheVariants.{Holds, Broken, Leaves}

@@ -1,13 +1,8 @@
 -- `assume` meets its contract: what is left of the attributes answers the same.
-use Prim.Native.Nat.{◌+◌, ◌-◌, ◌≤◌, ◌<◌}
-use native.Mathlib.Omega.{arith}
-use mathlib.Core.Path.{◌≡◌, refl, sym, ap, ◌∙◌}
-use mathlib.Core.Bool.{not}
-use borrow.Author.Tests.{not-true, not-false}
+use Prim.Native.Nat.{◌+◌, ◌≤◌}
+use mathlib.Core.Path.{◌≡◌}
 use Rattle.cells.specs.Lists.{from}
-use Rattle.lookups.proofs.Search.{ends}
-use Rattle.rules_assume.specs.Assume.{attribute_rule, or_else, in_turn, assume_in}
-use Rattle.rules_assume.proofs.Turns.{stops, goes, turn, turns_end}
+use Rattle.rules_assume.specs.Assume.{attribute_rule, in_turn, assume_in}
 use Rattle.rules_assume.proofs.assume.Given as goal
 
 abbrev pub invariant-loop-left : goal.invariant-loop-left
