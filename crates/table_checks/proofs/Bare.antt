@@ -1,6 +1,6 @@
 -- The checks after code 1 read only some of the tables, and on cut counts what they read on the whole ones where code 1 passes.
 -- Assumes nothing.
-use Prim.Native.Nat.{ℕ, zero, suc, ◌+◌, ◌≤◌}
+use Prim.Native.Nat.{ℕ, zero, suc, ◌≤◌}
 use native.Mathlib.Omega.{arith}
 use mathlib.Core.Path.{◌≡◌, refl, sym, subst, ap, ◌∙◌}
 use mathlib.Core.List.{List, []}
@@ -8,7 +8,7 @@ use mathlib.Core.Bool.{cond}
 use lib.Dec.{leb}
 use lib.ListN.{length}
 use Rattle.tables.specs.Sizes.{max_entries}
-use Rattle.tables.specs.Tables.{Tables, lent, nest, cut, result_types, result_types_span}
+use Rattle.tables.specs.Tables.{Tables, lent, nest, cut, result_types}
 use Rattle.tables.specs.Answer.{and_then}
 use Rattle.tables.specs.declared.Counts.{Counts}
 use Rattle.tables.specs.declared.Answer.{Answer}

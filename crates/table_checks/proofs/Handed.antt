@@ -13,7 +13,7 @@ use Rattle.tables.specs.declared.Answer.{Answer}
 use Rattle.tables.specs.declared.Answer.TheVariants.{Accepted, Refused}
 use Rattle.tables.specs.declared.Refusal.{Refusal}
 use Rattle.walk.specs.Order.{order}
-use Rattle.walk.specs.Written.{Filled, filled, walked, written}
+use Rattle.walk.specs.Written.{Filled, filled, walked}
 use Rattle.walk.proofs.Laws.{written_whole}
 use Rattle.values.specs.Claims.{number_of, Filled as Claims}
 use Rattle.values.proofs.Laws.{value_at_lem}

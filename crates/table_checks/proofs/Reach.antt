@@ -1,15 +1,15 @@
 -- The walk order of accepted tables: no operation stands in it twice, no region or block is opened twice, it has room, and the depth
 -- cuts nothing off. Assumes nothing.
-use Prim.Native.Nat.{ℕ, zero, suc, ◌+◌, ◌≤◌, ◌<◌}
+use Prim.Native.Nat.{ℕ, suc, ◌+◌, ◌≤◌, ◌<◌}
 use native.Mathlib.Omega.{arith}
-use mathlib.Core.Path.{◌≡◌, refl, sym, ap, ◌∙◌}
+use mathlib.Core.Path.{◌≡◌, refl}
 use mathlib.Core.Bool.{Bool, true, false, cond}
 use mathlib.Core.Logic.{⊎_elim}
 use mathlib.Core.List.{List, [], ◌∷◌, ◌++◌}
 use lib.Dec.{eqb}
-use lib.ListN.{length, get_or, length-append}
+use lib.ListN.{length}
 use borrow.Author.Tests.{eqb-true}
-use Rattle.cells.specs.Lists.{from, below, flat, count}
+use Rattle.cells.specs.Lists.{below, flat, count}
 use Rattle.cells.proofs.Rows.{lt_or_ge}
 use Rattle.tables.specs.Sizes.{max_depth}
 use Rattle.tables.specs.Tables.{Tables, functions, regions, blocks, operations}

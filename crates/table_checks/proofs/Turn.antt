@@ -1,6 +1,6 @@
 -- Checks in turn, with the list that is handed on: the first refusal clears it. Assumes nothing.
 use Prim.Native.Nat.{ℕ}
-use mathlib.Core.Path.{◌≡◌, refl, sym, ap, ◌∙◌}
+use mathlib.Core.Path.{◌≡◌, sym, ap, ◌∙◌}
 use native.Mathlib.Omega.{arith}
 use mathlib.Core.List.{List}
 use lib.ListN.{length, replicate}
@@ -12,7 +12,7 @@ use Rattle.tables.specs.declared.Refusal.TheVariants.{TooDeep}
 use Rattle.walk.specs.Written.{Filled, filled, walked, told, wrote as wrote_of}
 use Rattle.walk.specs.declared.Walked.{Walked}
 use Rattle.walk.specs.declared.Walked.TheVariants.{Fine as walks, Deep}
-use Rattle.table_checks.specs.Checked.{answer_of, wrote, Settles}
+use Rattle.table_checks.specs.Checked.{Settles}
 use Rattle.table_checks.specs.declared.Checked.{Checked}
 use Rattle.table_checks.specs.declared.Checked.TheVariants.{Fine, Refused as refused}
 
