@@ -1,12 +1,9 @@
 -- `read_lines` meets its contract: the lines from the cursor on, after what the lent lists hold, give what the whole text gives.
-use native.Mathlib.Omega.{arith}
 use Prim.Native.Nat.{◌+◌, ◌-◌, ◌≤◌}
-use mathlib.Core.Path.{◌≡◌, refl, ◌∙◌, ap}
+use mathlib.Core.Path.{◌≡◌}
 use lib.ListN.{length, take, drop}
 use Rattle.fields.specs.Cut.{split}
-use Rattle.fields.proofs.Parts.{end_ge}
-use Rattle.number_text.specs.Text.{Step, state, lines_of, over, fresh, ended}
-use Rattle.number_text.proofs.Whole.{at_end, at_far, at_refused, at_read}
+use Rattle.number_text.specs.Text.{state, lines_of, over, fresh}
 use Rattle.number_text.proofs.read_lines.Given as goal
 
 abbrev pub invariant-loop-functions : goal.invariant-loop-functions
