@@ -1,11 +1,8 @@
 -- `any_wrong_mask` meets its contract: no operand before k is wrong, so the rest of the operands decides.
 use Prim.Native.Nat.{◌-◌}
-use mathlib.Core.Path.{◌≡◌, refl, sym, ap, ◌∙◌}
-use native.Mathlib.Omega.{arith}
+use mathlib.Core.Path.{◌≡◌}
 use lib.ListN.{length, drop}
-use Rattle.tiles.specs.Tile.{tile_row, tile_in}
 use Rattle.rules_atomic.specs.Arm.{any_wrong_mask}
-use Rattle.rules_atomic.proofs.Masks.{wrong_here, wrong_later, none_wrong}
 use Rattle.rules_atomic.proofs.any_wrong_mask.Given as goal
 
 abbrev pub invariant-loop-k : goal.invariant-loop-k
