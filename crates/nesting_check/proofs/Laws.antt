@@ -7,7 +7,7 @@ use mathlib.Core.Option.{some, none}
 use mathlib.Core.List.{List}
 use lib.Dec.{ltb, leb}
 use borrow.Author.Tests.{le-leb, leb-true}
-use Rattle.cells.specs.Lists.{from, below, find}
+use Rattle.cells.specs.Lists.{from, find}
 use Rattle.tables.specs.Layout.{regions_in, operations_in}
 use Rattle.tables.specs.Tables.{Tables, opcode, result_types_span, operands_span, regions_span, attributes_span, arguments_span, operations_span}
 use Rattle.tables.specs.Sizes.{opcodes}

@@ -2,9 +2,7 @@
 use Prim.Native.Nat.{◌-◌}
 use lib.Dec.{ltb}
 use lib.ListN.{length}
-use native.Mathlib.Omega.{arith}
-use borrow.Author.Tests.{lt-ltb, le-ltb}
-use Rattle.ranges.proofs.Find.{Along, along_start, along_step, along_stop, along_end}
+use Rattle.ranges.proofs.Find.{Along}
 use Rattle.nesting_check.proofs.all_below.Given as goal
 
 abbrev pub invariant-loop-i : goal.invariant-loop-i

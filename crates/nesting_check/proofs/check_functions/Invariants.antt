@@ -1,13 +1,11 @@
 -- `check_functions`: entry by entry, up to the first that names no operation. Assumes nothing.
-use mathlib.Core.Path.{ap}
-use Prim.Native.Nat.{ℕ, ◌-◌}
+use Prim.Native.Nat.{◌-◌}
 use lib.Dec.{ltb}
 use lib.ListN.{get_or}
-use native.Mathlib.Omega.{arith}
 use Rattle.tables.specs.Tables.{functions}
 use Rattle.ranges.specs.Part.{tables_of_functions}
-use Rattle.ranges.proofs.Find.{Passed, pass_start}
-use Rattle.ranges.proofs.Scan.{bad, check_step, check_stop, check_end}
+use Rattle.ranges.proofs.Find.{Passed}
+use Rattle.ranges.proofs.Scan.{bad}
 use Rattle.nesting_check.proofs.check_functions.Given as goal
 
 abbrev pub invariant-loop-i : goal.invariant-loop-i

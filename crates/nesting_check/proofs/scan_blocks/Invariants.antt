@@ -1,11 +1,9 @@
 -- `scan_blocks`: entry by entry, with the list entries so far. Assumes nothing.
 use Prim.Native.Nat.{◌-◌}
-use native.Mathlib.Omega.{arith}
 use Rattle.nesting_check.specs.Checks.{nested_block}
 use Rattle.ranges.specs.Range.{listed_by_block}
 use Rattle.ranges.specs.Part.{tables_of_blocks}
-use Rattle.ranges.proofs.Scan.{Scan, scan_start, scan_step}
-use Rattle.nesting_check.proofs.Scan.{scan_stops, scan_ends}
+use Rattle.ranges.proofs.Scan.{Scan}
 use Rattle.nesting_check.proofs.scan_blocks.Given as goal
 
 abbrev pub invariant-loop-i : goal.invariant-loop-i
