@@ -2,7 +2,7 @@
 -- line out of order or a missing last LF; an empty text is 15 with 1, 0. A line reaching past byte 65,536 is 1 with 0, 0 before its other
 -- faults; a line without field faults that passes a table's size, rank 8 or the list entries (absent ones count, dims do not) is 1 with that
 -- table and entry." What follows the last LF, and an empty text, are in crate `module_text`.
-use Rattle.std.specs.Prelude.{ℕ, suc, ◌+◌, ◌-◌, ◌*◌, Bool, true, false, ◌&&◌, ◌||◌, cond, List, [], ◌∷◌, ◌++◌, eqb, ltb, leb, length, set, replicate}
+use Rattle.std.specs.Prelude.{ℕ, suc, ◌+◌, ◌-◌, ◌*◌, Bool, true, false, ◌&&◌, ◌||◌, cond, List, ◌++◌, eqb, ltb, leb, length, set, replicate}
 use Rattle.std.proofs.lemmas.List.Edits.{sets}
 use Rattle.fields.specs.Cut.{split, nth}
 use Rattle.names.specs.Names.{bytes, equal}
