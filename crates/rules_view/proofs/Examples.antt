@@ -8,7 +8,6 @@ use Rattle.names.specs.Names.{operand_segment_sizes, mode, memory_ordering_seman
 use Rattle.tables.specs.Layout.{opcode_in, result_types_span_in, result_types_in, operands_span_in, operands_in, attributes_span_in, attributes_in, name_in, attribute_form_in, numbers_span_in, numbers_in, value_type_in, form_in, kind_in, pointer_in, padded_in, sparse_in, rank_in, dims_in}
 use Rattle.tables.specs.Sheet.{mode_mask_in, tile_flag_in, tile_through_in}
 use Rattle.tables.specs.Tables.{lent}
-use Rattle.tables.specs.declared.Counts.{Counts}
 use Rattle.tiles.specs.Kind.{I32, I64, F32, is_integer}
 use Rattle.tiles.specs.Tile.{no_tile, eight_of, cells_of, row_tile, seen_in, tile_in, view_in, dims_of, rank_of, dim_of, is_tile, is_number, scalar_of, has_kind, is_integers}
 use Rattle.tiles.specs.Shape.{eq_z, all_pairs, same_dim, same_rank, same_shape}

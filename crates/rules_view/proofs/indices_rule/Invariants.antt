@@ -1,15 +1,10 @@
 -- `indices_rule` meets its contract: the indices before the axis are right, so the rest of the axes decides.
-use Prim.Native.Nat.{◌+◌, ◌-◌, ◌≤◌, min}
-use native.Mathlib.Omega.{arith}
-use mathlib.Core.Path.{◌≡◌, sym, ◌∙◌}
-use borrow.Author.Tests.{not-true, not-false}
+use Prim.Native.Nat.{◌+◌, ◌-◌, ◌≤◌}
+use mathlib.Core.Path.{◌≡◌}
 use Rattle.cells.specs.Lists.{from}
 use Rattle.tiles.specs.Tile.{rank_of}
-use Rattle.tiles.proofs.Dims.{rank_is}
-use Rattle.lookups.specs.Typed.{operand_type_in, operand_tile_in}
-use Rattle.lookups.proofs.Rows.{made}
-use Rattle.rules_view.specs.View.{index_start, element_after, or_else, indices_from, is_sparse_axis, indices_rule}
-use Rattle.rules_view.proofs.Indices.{stops, goes, start_small, turn, turns_end, all_left}
+use Rattle.lookups.specs.Typed.{operand_tile_in}
+use Rattle.rules_view.specs.View.{index_start, indices_from, is_sparse_axis, indices_rule}
 use Rattle.rules_view.proofs.indices_rule.Given as goal
 
 abbrev pub invariant-loop-axis : goal.invariant-loop-axis
