@@ -7,14 +7,13 @@ use Rattle.names.specs.Names.{bytes}
 use Rattle.fields.specs.Cut.{split, nth, on_first}
 use Rattle.fields.specs.Number.{written, decimal_of, is_decimal, all_digits, value_after, unsigned_of, signed_of}
 use Rattle.tables.specs.Tables.{Tables, lent}
-use Rattle.tables.specs.declared.Answer.{Answer}
 use Rattle.tables.specs.declared.Answer.TheVariants.{Accepted, Refused}
 use Rattle.tables.specs.declared.Refusal.TheVariants.{OutOfRange, TooShort, NotInForm}
 use Rattle.lines.specs.Field.{list_of}
 use Rattle.lines.specs.Line.{header_line, type_line, value_line, operation_line, attribute_line, block_line, region_line, function_line}
 use Rattle.house.specs.State.{State}
 use Rattle.house.specs.House.{no_counts, state, counts, judged, line_of}
-use Rattle.module_text.specs.Whole.{room, fresh, lines_of, house}
+use Rattle.module_text.specs.Whole.{room, fresh, lines_of}
 
 m : List ℕ
 m = bytes "tile\t1\t4\t100\nT\t1\t4\t0\t0\t-1\t\nV\t0\t\t\nV\t0\t\t\nV\t0\t1\t0\nV\t0\t3\t0\nO\t22\t\t\t0\nO\t3\t0\t0,1\t\nO\t38\t\t2\t1\nO\t3\t0\t2,0\t\nO\t74\t\t2\t\nB\t0,1\t1,2,4\nB\t\t3\nR\t0\nR\t1\nF\t0\n"

@@ -3,7 +3,7 @@
 use Prim.Native.Nat.{ℕ, zero, suc, ◌+◌, ◌-◌, ◌*◌, ◌%◌, ◌^◌, ◌≤◌, ◌<◌}
 use mathlib.Core.Bool.{Bool, true, false, ◌&&◌, ◌||◌, cond}
 use mathlib.Core.List.{List, [], ◌∷◌, ◌++◌}
-use mathlib.Core.Path.{◌≡◌, refl, sym, ◌∙◌, ap}
+use mathlib.Core.Path.{◌≡◌, refl, ◌∙◌, ap}
 use native.Mathlib.Nat.{mod-eq_of_lt, mod-le}
 use native.Mathlib.Omega.{arith}
 use lib.Dec.{eqb, ltb, leb}
@@ -12,18 +12,18 @@ use lib.Seq.{sets, get_or-set_other}
 use borrow.Author.Tests.{le-ltb, ltb-true, ltb-false, eqb-true}
 use Rattle.fields.specs.Cut.{split, nth}
 use Rattle.tables.specs.Sizes.{max_text, max_attributes}
-use Rattle.tables.specs.Tables.{Tables, lent}
+use Rattle.tables.specs.Tables.{Tables}
 use Rattle.tables.specs.declared.Answer.{Answer}
 use Rattle.tables.specs.declared.Answer.TheVariants.{Accepted, Refused}
 use Rattle.tables.specs.declared.Refusal.{Refusal}
 use Rattle.tables.specs.declared.Refusal.TheVariants.{OutOfRange, NotInForm}
 use Rattle.lines.specs.Field.{Read, says, bad}
-use Rattle.lines.specs.Line.{HeaderRow, TypeRow, ValueRow, OperationRow, AttributeRow, BlockRow, header_line, type_line, value_line, operation_line, attribute_line, block_line, region_line, function_line}
+use Rattle.lines.specs.Line.{OperationRow, header_line, type_line, value_line, operation_line, attribute_line, block_line, region_line, function_line}
 use Rattle.stores.specs.Rows.{operation_cells}
 use Rattle.stores.specs.Store.{one_attribute_more}
 use Rattle.stores.proofs.Stores.{impossible}
 use Rattle.house.specs.State.{State}
-use Rattle.house.specs.House.{refuse, taken, or_size, read, room_for, room_in_lists, take_header, take_type, take_value, take_operation, take_attribute, take_block, take_region, take_function, Tag, header, type, value, operation, attribute, block, region, function, unknown, tag_of, well_placed, take_line, placed, onward, too_far, judged, line_of}
+use Rattle.house.specs.House.{refuse, read, take_header, take_type, take_value, take_operation, take_attribute, take_block, take_region, take_function, Tag, header, type, value, operation, attribute, block, region, function, unknown, tag_of, well_placed, take_line, placed, onward, too_far, judged, line_of}
 use Rattle.module_text.specs.Whole.{fresh, started, start_of, room_in, last_of, lines_of, house}
 
 -- ---- the bounds

@@ -1,16 +1,16 @@
 -- How the text begins, goes on line by line, and ends.
-use Prim.Native.Nat.{ℕ, suc, ◌+◌, ◌-◌, ◌*◌, ◌≤◌, ◌<◌}
+use Prim.Native.Nat.{ℕ, suc, ◌+◌, ◌-◌, ◌≤◌, ◌<◌}
 use mathlib.Core.Bool.{Bool, true, false, ◌&&◌, ◌||◌, cond}
 use mathlib.Core.List.{List, [], ◌∷◌}
 use mathlib.Core.Path.{◌≡◌, refl, sym, ◌∙◌, ap}
 use native.Mathlib.Numerals.{add-one}
 use native.Mathlib.Omega.{arith}
-use lib.Dec.{eqb, ltb, leb}
+use lib.Dec.{eqb, ltb}
 use lib.ListN.{length, take, drop, length-take, length-drop}
 use borrow.Author.Tests.{lt-ltb, le-ltb, ltb-false}
-use Rattle.fields.specs.Cut.{split, until, end_from}
+use Rattle.fields.specs.Cut.{split, end_from}
 use Rattle.fields.proofs.Parts.{split_cons, end_le, at_last, at_more}
-use Rattle.tables.specs.Tables.{Tables, lent}
+use Rattle.tables.specs.Tables.{Tables}
 use Rattle.tables.specs.declared.Answer.{Answer}
 use Rattle.tables.specs.declared.Answer.TheVariants.{Accepted, Refused}
 use Rattle.tables.specs.declared.Refusal.{Refusal}
@@ -18,7 +18,7 @@ use Rattle.tables.specs.declared.Refusal.TheVariants.{OutOfRange, NotInForm}
 use Rattle.stores.proofs.Stores.{impossible}
 use Rattle.house.specs.State.{State}
 use Rattle.house.specs.House.{refuse, onward, line_of}
-use Rattle.house.specs.Step.{refusing, state_of, settled_by, settled}
+use Rattle.house.specs.Step.{refusing, state_of, settled}
 use Rattle.house.specs.declared.Reading.{Reading}
 use Rattle.house.proofs.Take.{settle_kept}
 use Rattle.module_text.specs.Whole.{fresh, started, last_of, lines_of, house, start_of}

@@ -1,16 +1,12 @@
 -- `read_module` meets its contract. What is left of the text, read from here, gives what the whole gives.
-use native.Mathlib.Omega.{arith}
-use Prim.Native.Nat.{ℕ, ◌+◌, ◌-◌, ◌≤◌}
-use mathlib.Core.Path.{◌≡◌, refl, ◌∙◌, ap}
+use Prim.Native.Nat.{◌-◌, ◌≤◌}
+use mathlib.Core.Path.{◌≡◌}
 use lib.ListN.{length, drop}
 use Rattle.fields.specs.Cut.{split}
-use Rattle.fields.proofs.Parts.{end_ge}
 use Rattle.tables.specs.Tables.{lent}
-use Rattle.house.specs.State.{State}
 use Rattle.house.specs.House.{no_counts}
 use Rattle.house.specs.Step.{state_of}
 use Rattle.module_text.specs.Whole.{lines_of}
-use Rattle.module_text.proofs.Ways.{next_line, no_line, house_is}
 use Rattle.module_text.proofs.read_module.Given as goal
 
 abbrev pub invariant-loop-p : goal.invariant-loop-p
