@@ -1,11 +1,8 @@
 -- `ask_operands`: what is left answers the same, where the marks are true. Assumes nothing.
-use Prim.Native.Nat.{ℕ, ◌-◌}
-use native.Mathlib.Omega.{arith}
-use mathlib.Core.Path.{◌≡◌, ap, ◌∙◌}
-use lib.ListN.{length, get_or}
-use Rattle.capabilities.specs.Ask.{ask, kind_asked}
-use Rattle.capabilities.specs.Part.{Knows, tables_of_operands, tables_of_types, operand_asks}
-use Rattle.tables.proofs.Each.{EachLeft, each_start, each_step, each_stop, each_end}
+use Prim.Native.Nat.{◌-◌}
+use lib.ListN.{length}
+use Rattle.capabilities.specs.Part.{Knows, tables_of_operands, operand_asks}
+use Rattle.tables.proofs.Each.{EachLeft}
 use Rattle.capabilities.proofs.ask_operands.Given as goal
 
 abbrev pub invariant-loop-k : goal.invariant-loop-k

@@ -1,13 +1,11 @@
 -- `ask_operations`: what is left answers the same, where the marks are true. Assumes nothing.
 use Prim.Native.Nat.{◌-◌}
-use native.Mathlib.Omega.{arith}
-use mathlib.Core.Path.{◌≡◌}
 use mathlib.Core.List.{[]}
-use lib.ListN.{length, get_or}
+use lib.ListN.{length}
 use Rattle.tables.specs.Tables.{lent}
 use Rattle.capabilities.specs.Ask.{operation_asks}
 use Rattle.capabilities.specs.Part.{Knows}
-use Rattle.tables.proofs.Each.{EachLeft, each_start, each_step, each_stop, each_end}
+use Rattle.tables.proofs.Each.{EachLeft}
 use Rattle.capabilities.proofs.ask_operations.Given as goal
 
 abbrev pub invariant-loop-k : goal.invariant-loop-k

@@ -1,10 +1,8 @@
 -- `ask_results`: what is left answers the same, where the marks are true. Assumes nothing.
 use Prim.Native.Nat.{◌-◌}
-use native.Mathlib.Omega.{arith}
-use mathlib.Core.Path.{◌≡◌}
-use lib.ListN.{length, get_or}
+use lib.ListN.{length}
 use Rattle.capabilities.specs.Part.{Knows, tables_of_types, result_asks}
-use Rattle.tables.proofs.Each.{EachLeft, each_start, each_step, each_stop, each_end}
+use Rattle.tables.proofs.Each.{EachLeft}
 use Rattle.capabilities.proofs.ask_results.Given as goal
 
 abbrev pub invariant-loop-k : goal.invariant-loop-k

@@ -1,10 +1,8 @@
 -- `mark_kinds`: each mark that is put is true. Assumes nothing.
 use Prim.Native.Nat.{◌-◌}
-use native.Mathlib.Omega.{arith}
-use mathlib.Core.Path.{◌≡◌, refl, sym, subst, ◌∙◌}
+use mathlib.Core.Path.{◌≡◌}
 use lib.ListN.{length}
 use Rattle.capabilities.specs.Part.{Knows}
-use Rattle.capabilities.proofs.Marks.{marked}
 use Rattle.capabilities.proofs.mark_kinds.Given as goal
 
 abbrev pub invariant-loop-kind : goal.invariant-loop-kind
