@@ -7,7 +7,7 @@ use mathlib.Core.List.{[]}
 use lib.ListN.{length}
 use lib.Dec.{ltb}
 use borrow.Author.Tests.{ltb-true, ltb-false}
-use Rattle.tables.specs.Tables.{Tables, functions, regions, blocks, operations, arguments, result_types, operands}
+use Rattle.tables.specs.Tables.{Tables, regions, blocks, operations, arguments, result_types, operands}
 use Rattle.nesting.specs.Live.{nesting_of}
 use Rattle.nesting.specs.Alike.{Alike}
 use Rattle.nesting.proofs.Past.{regions_past, blocks_past, operations_past, arguments_past, results_past, operands_past}
