@@ -1,5 +1,6 @@
 -- `ask_kind`: a token asks nothing, a marked kind is had, and any other is asked. Assumes nothing.
 use mathlib.Core.Path.{sym, ap, ◌∙◌}
+use native.Mathlib.Omega.{arith}
 use borrow.Author.Tests.{eq-eqb}
 use Rattle.capabilities.specs.Ask.{ask, kind_asked}
 use Rattle.capabilities.specs.Part.{tables_of_types}
@@ -18,7 +19,7 @@ returns-then-at_u64-eq1 c know =
     let kind = c.type_kind-kind in
     let form = c.type_form in
     sym
-    (ap (ask e.g e.operation) (kinded x e.id form.result kind.result form.ensures c.if-type_form-eq0.false kind.ensures)
+    (ap (ask e.g e.operation) (kinded x e.id form.result kind.result form.ensures (λ z. omega arith) kind.ensures)
     ∙ know kind.result e.operation (sym c.at_u64.ensures ∙ c.if-at_u64-eq1.true))
 
 pub returns : goal.returns
@@ -30,4 +31,4 @@ returns c know =
     c.ask.ensures
     ∙ ap (ask e.g e.operation)
     (c.scalar_requirement.ensures
-    ∙ sym (kinded x e.id form.result kind.result form.ensures c.if-type_form-eq0.false kind.ensures))
+    ∙ sym (kinded x e.id form.result kind.result form.ensures (λ z. omega arith) kind.ensures))
