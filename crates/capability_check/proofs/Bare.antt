@@ -1,6 +1,6 @@
 -- The requirements read types, values, operations, attributes and list entries alone. Assumes nothing.
 use Prim.Native.Nat.{ℕ}
-use mathlib.Core.Path.{◌≡◌, refl, ap}
+use mathlib.Core.Path.{◌≡◌, ap}
 use mathlib.Core.List.{List, []}
 use Rattle.tables.specs.Tables.{Tables, lent}
 use Rattle.tables.specs.declared.Target.{Target}
