@@ -1,13 +1,11 @@
 -- `rules_along` meets its contract: what is left of the order answers the same.
 use Prim.Native.Nat.{◌-◌}
-use native.Mathlib.Omega.{arith}
-use mathlib.Core.Path.{◌≡◌, ap, ◌∙◌}
 use mathlib.Core.List.{[]}
-use lib.ListN.{length, get_or}
+use lib.ListN.{length}
 use Rattle.tables.specs.Tables.{lent}
-use Rattle.rules.specs.Operation.{verify_operation, rules}
-use Rattle.rules.proofs.Along.{along, along_length}
-use Rattle.tables.proofs.Each.{EachLeft, each_start, each_step, each_stop, each_end}
+use Rattle.rules.specs.Operation.{verify_operation}
+use Rattle.rules.proofs.Along.{along}
+use Rattle.tables.proofs.Each.{EachLeft}
 use Rattle.rules.proofs.rules_along.Given as goal
 
 abbrev pub invariant-loop-k : goal.invariant-loop-k
