@@ -6,7 +6,7 @@ use lib.ListN.{replicate}
 use Rattle.names.specs.Names.{bytes}
 use Rattle.fields.specs.Cut.{split, nth, on_first}
 use Rattle.fields.specs.Number.{written, decimal_of, is_decimal, all_digits, value_after, unsigned_of, signed_of}
-use Rattle.tables.specs.Tables.{Tables, lent}
+use Rattle.tables.specs.Tables.{lent}
 use Rattle.tables.specs.Layout.{opcode_in, result_types_span_in, result_types_in, operands_span_in, operands_in, regions_span_in, regions_in, arguments_span_in, arguments_in, operations_span_in, operations_in, blocks_span_in, blocks_in, functions_in, value_type_in, claim_flag_in, claim_in}
 use Rattle.tables.specs.declared.Answer.{Answer}
 use Rattle.tables.specs.declared.Answer.TheVariants.{Accepted, Refused}
