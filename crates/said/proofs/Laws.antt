@@ -8,7 +8,7 @@ use lib.ListN.{get_or}
 use Rattle.cells.specs.Lists.{from}
 use Rattle.cells.specs.declared.Span.{Span}
 use Rattle.tables.specs.Layout.{attributes_span_in, attributes_in}
-use Rattle.tables.specs.Tables.{Tables, blocks, attributes, attributes_span}
+use Rattle.tables.specs.Tables.{Tables, blocks, attributes_span}
 use Rattle.tables.specs.declared.Answer.TheVariants.{Accepted}
 use Rattle.lines.specs.Line.{header_line, operation_line, attribute_line, block_line, region_line, function_line}
 use Rattle.module_text.specs.Whole.{house}

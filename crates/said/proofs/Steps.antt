@@ -16,7 +16,7 @@ use Rattle.lines.specs.Line.{HeaderRow, TypeRow, ValueRow, OperationRow, Attribu
 use Rattle.stores.specs.Rows.{type_cells, value_cells, operation_cells, attribute_cells, block_cells, region_cells}
 use Rattle.stores.specs.Store.{one_attribute_more}
 use Rattle.house.specs.State.{State}
-use Rattle.house.specs.House.{counts, take_header, Tag, header, type, value, operation, attribute, block, region, function}
+use Rattle.house.specs.House.{take_header, Tag, header, type, value, operation, attribute, block, region, function}
 use Rattle.reading.proofs.Rows.{row, row_room, row_old, row_new, row_at}
 use Rattle.reading.proofs.Types.{TypeHeld, type_width}
 use Rattle.reading.proofs.Values.{ValueHeld}
