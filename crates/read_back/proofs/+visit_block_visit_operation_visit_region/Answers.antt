@@ -1,6 +1,6 @@
 -- The walk: region visits blocks, block visits operations, operation visits regions. What is shown holds with any list of functions and any
 -- live places that the stack shows. Assumes nothing.
-use Rattle.std.proofs.Common.{◌≡◌, refl, ◌∙◌, ℕ, List, arith}
+use Rattle.std.proofs.Common.{refl, ◌∙◌, ℕ, List}
 use Rattle.tables.specs.Tables.{Tables, nest}
 use Rattle.nesting.specs.Live.{placed}
 use Rattle.read_back.specs.Alone.{spanned}

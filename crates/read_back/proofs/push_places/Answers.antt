@@ -1,12 +1,7 @@
 -- `push_places`: a row for each index. Assumes nothing.
 use native.Mathlib.Omega.{arith}
-use Prim.Native.Nat.{ℕ, ◌-◌, ◌≤◌}
-use mathlib.Core.Path.{◌≡◌, refl, ◌∙◌}
-use mathlib.Core.List.{List}
-use lib.ListN.{length}
-use Rattle.tables.specs.declared.Place.{Place}
-use Rattle.read_back.specs.Stack.{Makes, Shows}
-use Rattle.read_back.proofs.Stack.{Pushing, pushing_start, pushing_step, pushing_end}
+use mathlib.Core.Path.{◌∙◌}
+use Rattle.read_back.proofs.Stack.{pushing_step, pushing_end}
 use Rattle.read_back.proofs.push_places.Goals as goal
 
 pub loop-k-preserved : goal.loop-k-preserved

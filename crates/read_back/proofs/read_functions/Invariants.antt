@@ -1,18 +1,13 @@
 -- `read_functions`: function after function, each afresh. Assumes nothing.
-use native.Mathlib.Omega.{arith}
-use Prim.Native.Nat.{◌-◌, ◌<◌, ◌≤◌}
-use mathlib.Core.Path.{◌≡◌, refl, sym, ◌∙◌}
+use Prim.Native.Nat.{◌-◌}
+use mathlib.Core.Path.{◌≡◌}
 use mathlib.Core.List.{[]}
 use lib.ListN.{length}
 use Rattle.tables.specs.Layout.{functions_in}
 use Rattle.tables.specs.Tables.{nest}
-use Rattle.walk.proofs.Visits.{functions_counted}
-use Rattle.nesting.specs.Ask.{fold_entries}
-use Rattle.nesting.specs.Live.{placed}
-use Rattle.read_back.specs.Alone.{spanned}
 use Rattle.read_back.specs.Stack.{Shows}
-use Rattle.read_back.specs.Stage.{start, entry_uses, entries_uses}
-use Rattle.read_back.proofs.Visits.{Going, going_start, going_step, going_end}
+use Rattle.read_back.specs.Stage.{start, entry_uses}
+use Rattle.read_back.proofs.Visits.{Going}
 use Rattle.read_back.proofs.read_functions.Given as goal
 
 abbrev pub invariant-loop-i : goal.invariant-loop-i

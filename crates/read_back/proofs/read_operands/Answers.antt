@@ -1,13 +1,7 @@
 -- `read_operands`: one number for each operand. Assumes nothing.
 use native.Mathlib.Omega.{arith}
-use Prim.Native.Nat.{◌-◌, ◌≤◌}
-use mathlib.Core.Path.{◌≡◌, refl, ◌∙◌}
-use mathlib.Core.List.{List}
-use lib.ListN.{length}
-use Rattle.tables.specs.declared.Place.{Place}
-use Rattle.read_back.specs.Stack.{Shows}
-use Rattle.read_back.specs.Stage.{staged}
-use Rattle.read_back.proofs.Stage.{Running, running_start, running_step, running_end}
+use mathlib.Core.Path.{◌∙◌}
+use Rattle.read_back.proofs.Stage.{running_step}
 use Rattle.read_back.proofs.read_operands.Goals as goal
 
 pub loop-k-preserved : goal.loop-k-preserved
