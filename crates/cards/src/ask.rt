@@ -1,33 +1,58 @@
 // One card: its two texts are read, and the check over texts is asked.
+ghost use Rattle.io.specs.Counts.{IsPrefixLen};
+
 use crate::said;
+use std::fs;
+use std::fs::File;
+use std::io::Read;
 
 // What stands where no length is written: no function has so many operands.
 const NO_LENGTH: u64 = 18446744073709551615;
 
 // A file that cannot be opened is told on standard error, and the card has no answer.
-pub fn card(asks: &[u8], module: &[u8], sheet: &[u8]) {
+pub fn card(rt: &HostRuntime, asks: &[u8], module: &str, sheet: &str) -> std::io::Result<()> {
     said::asked(asks);
-    let fd = os::open_read(sheet);
-    if fd < 0 {
-        os::fail(sheet);
-        return;
+    match fs::open(rt, sheet) {
+        Ok(file) => {
+            let mut text = io::large_buffer();
+            let n = read_full(file, &mut text);
+            with_sheet(rt, module, &text[..n])
+        }
+        Err(why) => said::unopened(rt, sheet, why),
     }
-    let mut text = io::large_buffer();
-    let n = io::read_full(fd, &mut text);
-    libc::close(fd);
-    with_sheet(module, &text[..n]);
 }
 
-fn with_sheet(module: &[u8], sheet_text: &[u8]) {
-    let fd = os::open_read(module);
-    if fd < 0 {
-        os::fail(module);
-        return;
+fn with_sheet(rt: &HostRuntime, module: &str, sheet_text: &[u8]) -> std::io::Result<()> {
+    match fs::open(rt, module) {
+        Ok(file) => {
+            let mut text = io::large_buffer();
+            let n = read_full(file, &mut text);
+            with_texts(sheet_text, &text[..n]);
+            Ok(())
+        }
+        Err(why) => said::unopened(rt, module, why),
     }
-    let mut text = io::large_buffer();
-    let n = io::read_full(fd, &mut text);
-    libc::close(fd);
-    with_texts(sheet_text, &text[..n]);
+}
+
+// Reads until the text is full, the file ends or a read fails; how many bytes it put at the start of the text.
+fn read_full(mut file: File, text: &mut [u8]) -> usize
+    ensures { IsPrefixLen result text.new }
+{
+    let mut done: usize = 0;
+    while done < text.len() {
+        match file.read(&mut text[done..]) {
+            Ok(n) => {
+                if n == 0 {
+                    return done;
+                }
+                done += n;
+            }
+            Err(_) => {
+                return done;
+            }
+        }
+    }
+    done
 }
 
 // Tables of full size, as the paper has them.

@@ -11,6 +11,11 @@ pub fn asked(asks: &[u8]) {
     text(b"\n");
 }
 
+// What could not be opened, and why, on standard error.
+pub fn unopened(rt: &HostRuntime, path: &str, why: std::io::Error) -> std::io::Result<()> {
+    eprintln!(rt; "{path}: {why}")
+}
+
 // `ok` with one `n` line a function, or one `no` line.
 pub fn answered(answer: Numbered, numbers: &[u64], lengths: &[u64]) {
     match answer {
@@ -45,7 +50,7 @@ fn functions(numbers: &[u64], lengths: &[u64], count: u64) {
             return;
         }
         function(i as u64, cells::entries(numbers, Span { start, len }));
-        start = std::num::wrapping_add_u64(start, len);
+        start = start.wrapping_add(len);
         i += 1;
     }
 }

@@ -21,18 +21,18 @@ enum Word {
 
 const WORD: usize = 1;
 
-fn main() {
+fn main(rt: HostRuntime) {
     let mut room = io::buffer();
-    let length = os::arg(WORD, &mut room);
+    let length = files::word_at(&rt, WORD, &mut room);
     let word = word_of(&room[..length]);
-    if os::arg_count() != words_of(word) {
+    if !files::has_words(&rt, words_of(word)) {
         said::usage();
         return;
     }
     match word {
-        Word::Check => check(2, 3),
-        Word::Part => part(2, 3, 4),
-        Word::Places => places(2, 3),
+        Word::Check => check(&rt, 2, 3),
+        Word::Part => part(&rt, 2, 3, 4),
+        Word::Places => places(&rt, 2, 3),
         Word::Help => said::help(),
         Word::Version => said::version(),
         Word::Unknown => said::usage(),
@@ -57,21 +57,21 @@ const MOST_TEXT: usize = 65537;
 const MOST_LIST: usize = 262145;
 
 // Standard input can be read once.
-fn same_input(one: usize, other: usize) -> bool {
-    files::is_input(one) && files::is_input(other)
+fn same_input(rt: &HostRuntime, one: usize, other: usize) -> bool {
+    files::is_input(rt, one) && files::is_input(rt, other)
 }
 
-fn check(module: usize, sheet: usize) {
-    if same_input(module, sheet) {
+fn check(rt: &HostRuntime, module: usize, sheet: usize) {
+    if same_input(rt, module, sheet) {
         said::usage();
         return;
     }
     let mut text = [0u8; MOST_TEXT];
-    let Got::Bytes(count) = files::read(module, &mut text) else {
+    let Got::Bytes(count) = files::read(rt, module, &mut text) else {
         return;
     };
     let mut sheet_text = [0u8; MOST_TEXT];
-    let Got::Bytes(sheet_count) = files::read(sheet, &mut sheet_text) else {
+    let Got::Bytes(sheet_count) = files::read(rt, sheet, &mut sheet_text) else {
         return;
     };
     asked::whole(
@@ -80,24 +80,24 @@ fn check(module: usize, sheet: usize) {
     );
 }
 
-fn part(name: usize, module: usize, sheet: usize) {
+fn part(rt: &HostRuntime, name: usize, module: usize, sheet: usize) {
     let mut room = io::buffer();
-    let length = os::arg(name, &mut room);
+    let length = files::word_at(rt, name, &mut room);
     let part = asked::part_of(&room[..length]);
     if let Part::Unknown = part {
         said::usage();
         return;
     }
-    if same_input(module, sheet) {
+    if same_input(rt, module, sheet) {
         said::usage();
         return;
     }
     let mut text = [0u8; MOST_TEXT];
-    let Got::Bytes(count) = files::read(module, &mut text) else {
+    let Got::Bytes(count) = files::read(rt, module, &mut text) else {
         return;
     };
     let mut sheet_text = [0u8; MOST_TEXT];
-    let Got::Bytes(sheet_count) = files::read(sheet, &mut sheet_text) else {
+    let Got::Bytes(sheet_count) = files::read(rt, sheet, &mut sheet_text) else {
         return;
     };
     asked::alone(
@@ -107,17 +107,17 @@ fn part(name: usize, module: usize, sheet: usize) {
     );
 }
 
-fn places(module: usize, numbers: usize) {
-    if same_input(module, numbers) {
+fn places(rt: &HostRuntime, module: usize, numbers: usize) {
+    if same_input(rt, module, numbers) {
         said::usage();
         return;
     }
     let mut text = [0u8; MOST_TEXT];
-    let Got::Bytes(count) = files::read(module, &mut text) else {
+    let Got::Bytes(count) = files::read(rt, module, &mut text) else {
         return;
     };
     let mut list = [0u8; MOST_LIST];
-    let Got::Bytes(list_count) = files::read(numbers, &mut list) else {
+    let Got::Bytes(list_count) = files::read(rt, numbers, &mut list) else {
         return;
     };
     asked::read_back(files::part(&text, count), files::part(&list, list_count));
