@@ -5,7 +5,6 @@ use native.Mathlib.Omega.{arith}
 use mathlib.Core.Path.{◌≡◌, refl, sym, ap, ◌∙◌, subst}
 use mathlib.Core.List.{List, [], ◌∷◌, ◌++◌, map}
 use lib.ListN.{length, get_or, set, drop, length-append, length-map}
-use Rattle.cells.specs.Cell.{copied}
 use Rattle.cells.proofs.Parts.{left_step, left_end, Copied, copy_start, copy_step, copy_all}
 use Rattle.tables.specs.Tables.{Tables, functions}
 use Rattle.tables.specs.declared.Refusal.{Refusal}

@@ -2,7 +2,7 @@
 use Prim.Native.Nat.{ℕ, ◌<◌, ◌≤◌}
 use mathlib.Core.Path.{◌≡◌, ap, ◌∙◌}
 use mathlib.Core.List.{List, ◌++◌}
-use lib.ListN.{length, take, drop}
+use lib.ListN.{length, drop}
 use lib.Seq.{take_all}
 use borrow.Author.Tests.{le-leb, lt-leb}
 use Rattle.cells.specs.Cell.{copied}

@@ -1,12 +1,10 @@
 -- The walk: what each visit answers, and what its stack shows after it. Assumes nothing.
-use Prim.Native.Nat.{ℕ}
-use mathlib.Core.Path.{◌≡◌, sym, ap, ◌∙◌, subst}
-use mathlib.Core.List.{List}
+use mathlib.Core.Path.{sym, ap, ◌∙◌, subst}
 use Rattle.tables.specs.Tables.{Tables, lent}
 use Rattle.scope.specs.Stack.{see_all, Shows}
 use Rattle.scope.specs.declared.Scope.{Scope}
 use Rattle.scope.proofs.Laws.{begins_same, begins_on, begins_all}
-use Rattle.dominance.proofs.Walks.{going_said, going_live, going_stop, going_more, stopped, level_is, stands_is, grown_same, begins_after, regions_are, block_is, region_is, region_none, operation_stops, operation_goes, back_to}
+use Rattle.dominance.proofs.Walks.{going_said, going_live, going_stop, going_more, stopped, stands_is, grown_same, begins_after, regions_are, block_is, region_is, region_none, operation_stops, operation_goes, back_to}
 use Rattle.dominance.proofs.+visit_block_visit_operation_visit_region_visit_regions.Goals as goal
 
 -- ---- a block

@@ -1,6 +1,6 @@
 -- The walk: region visits blocks, block visits operations, operation visits its regions in turn, on a falling remaining depth.
 -- Each loop visits the ids of one list; what the walk was not lent stands in no answer, so what is shown holds with any. Assumes nothing.
-use Prim.Native.Nat.{ℕ, ◌+◌, ◌-◌, ◌*◌}
+use Prim.Native.Nat.{◌+◌, ◌-◌, ◌*◌}
 use lib.ListN.{length}
 use Rattle.dominance.specs.Walk.{after, region_judged, block_judged, operation_judged}
 use Rattle.dominance.proofs.Walks.{Loop, same}

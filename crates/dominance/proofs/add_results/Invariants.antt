@@ -1,16 +1,15 @@
 -- `add_results`: the values of an operation's declared results, one by one. Assumes nothing.
 use Prim.Native.Nat.{ℕ, ◌-◌}
-use native.Mathlib.Omega.{arith}
-use mathlib.Core.Path.{◌≡◌, refl, ap, ◌∙◌}
+use mathlib.Core.Path.{◌≡◌}
 use mathlib.Core.List.{List}
 use lib.ListN.{length}
 use Rattle.tables.specs.Layout.{result_types_in}
 use Rattle.tables.specs.Tables.{lent}
 use Rattle.tables.specs.Value.{value_of}
-use Rattle.nesting.specs.Live.{to_list, result_values}
+use Rattle.nesting.specs.Live.{to_list}
 use Rattle.scope.specs.Stack.{Shows}
 use Rattle.dominance.specs.Walk.{Tells}
-use Rattle.dominance.proofs.Operation.{Taking, taking_start, taking_more, taking_end}
+use Rattle.dominance.proofs.Operation.{Taking}
 use Rattle.dominance.proofs.add_results.Given as goal
 
 abbrev pub invariant-loop-k : goal.invariant-loop-k

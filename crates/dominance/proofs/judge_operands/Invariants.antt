@@ -1,12 +1,10 @@
 -- `judge_operands`: the first operand that is not live. The invariant: what is left is judged as all of them are. Assumes nothing.
 use Prim.Native.Nat.{ℕ, ◌-◌}
-use mathlib.Core.Path.{◌≡◌, refl, sym, ◌∙◌}
+use mathlib.Core.Path.{◌≡◌}
 use mathlib.Core.List.{List}
 use lib.ListN.{length, drop}
-use borrow.Author.Tests.{not-true, not-false}
 use Rattle.nesting.specs.Dominance.{judge}
 use Rattle.scope.specs.Stack.{Shows}
-use Rattle.dominance.proofs.Operation.{judge_more, judge_hidden, judge_end}
 use Rattle.dominance.proofs.judge_operands.Given as goal
 
 abbrev pub invariant-loop-k : goal.invariant-loop-k

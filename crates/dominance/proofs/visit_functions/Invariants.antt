@@ -1,15 +1,12 @@
 -- `visit_functions`: the functions in order, each on an empty stack. Assumes nothing.
-use Prim.Native.Nat.{ℕ, ◌-◌, ◌<◌, ◌≤◌}
-use native.Mathlib.Omega.{arith}
-use mathlib.Core.Path.{◌≡◌, refl, sym, ap, ◌∙◌}
+use Prim.Native.Nat.{ℕ, ◌-◌, ◌≤◌}
+use mathlib.Core.Path.{◌≡◌}
 use mathlib.Core.List.{List}
 use lib.ListN.{length, drop}
 use Rattle.tables.specs.Layout.{functions_in}
 use Rattle.tables.specs.Tables.{lent, functions}
-use Rattle.walk.proofs.Visits.{functions_counted}
 use Rattle.nesting.specs.Ask.{answers, all}
 use Rattle.dominance.specs.Walk.{Tells, function_judged}
-use Rattle.dominance.proofs.Walks.{all_more, all_stop, all_end, whole_is}
 use Rattle.dominance.proofs.visit_functions.Given as goal
 
 abbrev pub invariant-loop-i : goal.invariant-loop-i

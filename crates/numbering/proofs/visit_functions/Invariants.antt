@@ -1,19 +1,14 @@
 -- `visit_functions`: the functions in order, each on an empty stack and behind the numbers of the last. Assumes nothing.
-use Prim.Native.Nat.{ℕ, ◌-◌, ◌<◌, ◌≤◌}
-use native.Mathlib.Omega.{arith}
-use mathlib.Core.Path.{◌≡◌, refl, sym, ap, ◌∙◌}
+use Prim.Native.Nat.{ℕ, ◌-◌}
+use mathlib.Core.Path.{◌≡◌}
 use mathlib.Core.List.{List}
 use lib.ListN.{length}
 use Rattle.tables.specs.Layout.{functions_in}
 use Rattle.tables.specs.Tables.{lent, functions}
-use Rattle.walk.proofs.Visits.{functions_counted}
-use Rattle.nesting.specs.Numbering.{Listing}
-use Rattle.numbering.specs.Alone.{size, sizes, filled_by}
+use Rattle.numbering.specs.Alone.{size}
 use Rattle.numbering_walk.specs.Walk.{Tells, function_numbered}
 use Rattle.numbering.specs.Fill.{Room}
-use Rattle.numbering_walk.proofs.Walks.{stops_is, fine_is, wrote_is}
-use Rattle.numbering.proofs.Sizes.{function_size}
-use Rattle.numbering.proofs.Fill.{Filling, filling_start, filling_stop, filling_more, filling_end, entries_are}
+use Rattle.numbering.proofs.Fill.{Filling}
 use Rattle.numbering.proofs.visit_functions.Given as goal
 
 abbrev pub invariant-loop-i : goal.invariant-loop-i

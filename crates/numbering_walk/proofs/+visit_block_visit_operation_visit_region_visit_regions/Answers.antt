@@ -1,5 +1,4 @@
 -- The walk: what each visit numbers, what it writes, and what its stack shows after it. Assumes nothing.
-use Prim.Native.Nat.{ℕ}
 use mathlib.Core.Path.{sym, ap, ◌∙◌, subst}
 use Rattle.tables.specs.Tables.{Tables, lent}
 use Rattle.scope.specs.Stack.{see_all, Shows}

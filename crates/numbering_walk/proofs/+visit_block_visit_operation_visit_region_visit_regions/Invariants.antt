@@ -1,6 +1,6 @@
 -- The walk: region visits blocks, block visits operations, operation visits its regions in turn, on a falling remaining depth.
 -- Each loop visits the ids of one list; what the walk was not lent stands in no answer, so what is shown holds with any. Assumes nothing.
-use Prim.Native.Nat.{ℕ, ◌+◌, ◌-◌, ◌*◌}
+use Prim.Native.Nat.{◌+◌, ◌-◌, ◌*◌}
 use lib.ListN.{length}
 use Rattle.numbering_walk.specs.Walk.{after, region_numbered, block_numbered, operation_numbered}
 use Rattle.numbering_walk.proofs.Walks.{Loop, same}

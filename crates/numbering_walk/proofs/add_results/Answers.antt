@@ -14,8 +14,8 @@ returns-then-number-eq0-clause-went c =
     λ t v aa b r f held tells live g.
     let x = lent t v c.args.o.now aa b r f c.args.l.now c.args.n in
     let missing =
-        numbered_none _ (value_of x c.args.id lp.k) c.if-number-eq0.true
-        (c.number_at-number.ensures ∙ tells c.args.id lp.k (omega (arith, lp.invariant.3, c.loop-k-test.true))) in
+    numbered_none _ (value_of x c.args.id lp.k) c.if-number-eq0.true
+    (c.number_at-number.ensures ∙ tells c.args.id lp.k (omega (arith, lp.invariant.3, c.loop-k-test.true))) in
     stopped (rw lp.invariant.3 at (taking_stop (lp.invariant.4 t v aa b r f tells live g) c.loop-k-test.true missing) ∙ there_is x c.args.id)
 
 pub loop-k-preserved : goal.loop-k-preserved
@@ -30,8 +30,8 @@ loop-k-preserved c =
           let x = lent t v c.args.o.now aa b r f c.args.l.now c.args.n in
           let got = lp.invariant.4 t v aa b r f tells live g in
           let value =
-              numbered_some _ (value_of x c.args.id lp.k) c.if-number-eq0.false
-              (c.number_at-number.ensures ∙ tells c.args.id lp.k (omega (arith, lp.invariant.3, c.loop-k-test.true))) in
+          numbered_some _ (value_of x c.args.id lp.k) c.if-number-eq0.false
+          (c.number_at-number.ensures ∙ tells c.args.id lp.k (omega (arith, lp.invariant.3, c.loop-k-test.true))) in
           taking_more got c.loop-k-test.true value (w.ensures.by_index got.now_live got.stack),
     )
 

@@ -1,17 +1,14 @@
 -- `add_results`: the values of an operation's declared results, one by one, up to the first that is missing. Assumes nothing.
 use Prim.Native.Nat.{ℕ, ◌-◌}
-use native.Mathlib.Omega.{arith}
-use mathlib.Core.Path.{◌≡◌, refl, ap, ◌∙◌}
+use mathlib.Core.Path.{◌≡◌}
 use mathlib.Core.List.{List}
 use lib.ListN.{length}
 use Rattle.tables.specs.Layout.{result_types_in}
 use Rattle.tables.specs.Tables.{lent}
 use Rattle.tables.specs.Value.{value_of}
-use Rattle.nesting.specs.Live.{result_values, value_at}
 use Rattle.scope.specs.Stack.{Shows}
 use Rattle.numbering_walk.specs.Walk.{Tells}
-use Rattle.numbering_walk.proofs.Walks.{stopped}
-use Rattle.numbering_walk.proofs.Operation.{Taking, taking_start, taking_more, taking_stop, taking_end, numbered_none, numbered_some, there_is}
+use Rattle.numbering_walk.proofs.Operation.{Taking}
 use Rattle.numbering_walk.proofs.add_results.Given as goal
 
 abbrev pub invariant-loop-k : goal.invariant-loop-k

@@ -1,6 +1,5 @@
 -- `look_up`: the number of each operand, or the first that has none. Assumes nothing.
-use mathlib.Core.Path.{refl, sym, ap, ◌∙◌}
-use Rattle.scope.specs.Stack.{number_in}
+use mathlib.Core.Path.{sym, ◌∙◌}
 use Rattle.numbering_walk.proofs.Walks.{stopped}
 use Rattle.numbering_walk.proofs.Operation.{look_more, look_stop, look_end}
 use Rattle.numbering_walk.proofs.look_up.Goals as goal

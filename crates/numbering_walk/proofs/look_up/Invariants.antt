@@ -1,12 +1,11 @@
 -- `look_up`: the number of each operand, or the first that has none. Assumes nothing.
 use Prim.Native.Nat.{ℕ, ◌-◌}
-use mathlib.Core.Path.{◌≡◌, refl, sym, ap, ◌∙◌}
+use mathlib.Core.Path.{◌≡◌}
 use mathlib.Core.List.{List}
 use lib.ListN.{length}
 use Rattle.walk.specs.Written.{filled}
-use Rattle.scope.specs.Stack.{Shows, number_in}
-use Rattle.numbering_walk.proofs.Walks.{stopped}
-use Rattle.numbering_walk.proofs.Operation.{Looking, look_start, look_more, look_stop, look_end}
+use Rattle.scope.specs.Stack.{Shows}
+use Rattle.numbering_walk.proofs.Operation.{Looking}
 use Rattle.numbering_walk.proofs.look_up.Given as goal
 
 abbrev pub invariant-loop-k : goal.invariant-loop-k

@@ -1,7 +1,5 @@
 -- `open_operation`: an operation's operands, its count, then its results. Assumes nothing.
-use mathlib.Core.Path.{sym, ap, ◌∙◌}
 use Rattle.tables.specs.Tables.{lent}
-use Rattle.numbering_walk.specs.Walk.{judged}
 use Rattle.numbering_walk.proofs.Walks.{stopped, stands_is}
 use Rattle.numbering_walk.proofs.Operation.{open_stops, count_stops, open_goes}
 use Rattle.numbering_walk.proofs.open_operation.Goals as goal
