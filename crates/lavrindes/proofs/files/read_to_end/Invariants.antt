@@ -4,4 +4,4 @@ use lib.ListN.{length}
 use Rattle.lavrindes.proofs.files.read_to_end.Given as goal
 
 abbrev pub decreases-loop-done : goal.decreases-loop-done
-decreases-loop-done z = length z.initial.text - z.done
+decreases-loop-done g z = length z.text - z.done
