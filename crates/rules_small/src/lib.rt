@@ -29,6 +29,7 @@ pub fn f_to_i(o: &[u32], a: &[u32], l: &[u64], n: Counts, operation: u64) -> Ver
 }
 
 // AddF, SubF, MulF and Fma: rounding to the nearest, up, down or towards zero.
+#[tactic(auto, unfolding(crate::specs::Rounding::add_f, lookups::specs::Verdict::fail_if))]
 pub fn add_f(o: &[u32], a: &[u32], l: &[u64], n: Counts, operation: u64) -> Verdict
     ensures { result ≡ add_f (lent [] [] o.now a.now [] [] [] l.now n) operation }
 {
