@@ -19,7 +19,7 @@ native_archive || exit 1
 if [ ! -s target/native/module.bc ]; then
     shadow_kit "$home/kit" "$kit" "$(uname -m)"
     rm -f target/staticlib/libbench.a
-    RATTLE_HOME=$home/kit rt staticlib bench >"$home/bench.log" 2>&1
+    RATTLE_HOME=$home/kit static_library
 fi
 [ -s target/native/module.bc ] || { echo "fuzz: the bench's LLVM module could not be kept" >&2; exit 1; }
 own=$kit/on/$(uname -m)/toolchain/bin/clang

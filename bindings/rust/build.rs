@@ -1,4 +1,4 @@
-// Finds the bench's archive: in the folder LAVRINDES_LIB_DIR, else where `rt staticlib bench` leaves it in this repository.
+// Finds the bench's archive: in the folder LAVRINDES_LIB_DIR, else where `rt lib` in crates/bench leaves it.
 use std::{env, path::PathBuf};
 
 fn main() {
@@ -6,12 +6,12 @@ fn main() {
     let here = PathBuf::from(env::var_os("CARGO_MANIFEST_DIR").expect("cargo names the package's folder"));
     let dir = match env::var_os("LAVRINDES_LIB_DIR") {
         Some(dir) => PathBuf::from(dir),
-        None => here.join("../../target/staticlib"),
+        None => here.join("../../crates/bench/out"),
     };
     let archive = dir.join("libbench.a");
     if !archive.is_file() {
         panic!(
-            "there is no {}: run `rt staticlib bench` in the repository, or name the archive's folder in LAVRINDES_LIB_DIR",
+            "there is no {}: run `rt lib` in crates/bench, or name the archive's folder in LAVRINDES_LIB_DIR",
             archive.display()
         );
     }

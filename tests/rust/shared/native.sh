@@ -2,7 +2,7 @@
 
 # stale FILE: FILE is not there, or older than a source of the bench.
 stale() {
-    [ ! -s "$1" ] || [ -n "$(find crates crates.txt -newer "$1" | head -n 1)" ]
+    [ ! -s "$1" ] || [ -n "$(find crates crates.txt -name out -prune -o -newer "$1" -print | head -n 1)" ]
 }
 
 # shadow_kit DIR KIT MACHINE: the kit again, but for a clang that keeps the LLVM module it is handed, as target/native/module.bc.
@@ -30,16 +30,22 @@ compiled_here() {
     )
 }
 
+# The kit's build of the bench, as target/staticlib/libbench.a.
+static_library() {
+    mkdir -p target/staticlib
+    (cd crates/bench && rt lib) >target/native/bench.log 2>&1 && cp crates/bench/out/libbench.a target/staticlib/
+}
+
 # archives: leaves target/staticlib/libbench.a and target/native/libbench.a, which are one on x86-64.
 archives() {
     rm -rf target/native
     mkdir -p target/native
     if [ "$(uname -m)" = x86_64 ]; then
-        rt staticlib bench >target/native/bench.log 2>&1 && cp target/staticlib/libbench.a target/native/
+        static_library && cp target/staticlib/libbench.a target/native/
     else
         kit=$(dirname "$(dirname "$(readlink -f "$(command -v rt)")")")
         shadow_kit "$PWD/target/native/kit" "$kit" "$(uname -m)"
-        RATTLE_HOME=$PWD/target/native/kit rt staticlib bench >target/native/bench.log 2>&1 && compiled_here "$kit"
+        RATTLE_HOME=$PWD/target/native/kit static_library && compiled_here "$kit"
     fi || { tail -n 20 target/native/bench.log; return 1; }
 }
 
