@@ -133,6 +133,7 @@ module _ (x : Tables) where
       (λ j z u v. held (record { region = r.parent; block = j; in_operation_lem = r.listed; in_region_lem = u; in_block = v })) r.holds
 
   accepted : (f : ℕ → Answer) {k : ℕ} (ks : List ℕ) → each f ks ≡ Accepted → In k ks → f k ≡ Accepted
+  accepted f {k = k} [] e p = elim p [ ]
   accepted f (k ∷ ks) e here = (both_accept (f k) (each f ks) e).0
   accepted f (k ∷ ks) e (later p) = accepted f ks (both_accept (f k) (each f ks) e).1 p
 
