@@ -1,4 +1,4 @@
-/* The bench from C and C++: what the archive `libbench.a` exports (`rt staticlib bench` makes it, as x86-64 Linux code).
+/* The bench from C and C++: what the archive `libbench.a` exports (`rt lib` in crates/bench makes it, as x86-64 Linux code).
  *
  * A slice is two arguments, the address of its first entry and how many entries it has. Every length and every entry is allowed: a table
  * shorter than its count says is code 1, as is a sheet of less than 320 entries, and a list too short for what is to be written is code 13.
