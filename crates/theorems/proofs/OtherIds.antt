@@ -12,7 +12,7 @@ use Rattle.cells.specs.Lists.{from, below}
 use Rattle.cells.proofs.Rows.{lt_or_ge}
 use Rattle.tables.specs.Layout.{opcode_in, result_types_span_in, result_types_in, operands_span_in, operands_in, regions_span_in, regions_in, attributes_span_in, arguments_span_in, arguments_in, operations_span_in, operations_in, blocks_span_in, blocks_in, functions_in, value_type_in, claim_flag_in, claim_in, form_in, kind_in, pointer_in, padded_in, sparse_in, rank_in, dims_in}
 use Rattle.tables.specs.Sheet.{fixed_flag_in, fixed_count_in, mode_mask_in, contained_mask_in, byte_width_in, tile_flag_in}
-use Rattle.tables.specs.Tables.{Tables, lent, nest, functions, regions, blocks, operations, arguments, result_types, operands, arguments_span, result_types_span, operands_span}
+use Rattle.tables.specs.Tables.{Tables, lent, nest, regions, blocks, operations, arguments, result_types, operands, arguments_span, result_types_span, operands_span}
 use Rattle.tables.specs.Value.{value_of}
 use Rattle.tables.specs.Place.{defining_place}
 use Rattle.tables.specs.declared.Answer.{Answer}
