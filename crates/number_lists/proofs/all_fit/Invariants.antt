@@ -1,14 +1,8 @@
 -- `all_fit` meets its contract. The loop's invariant: whether the lists still to be looked at fit is whether all do.
-use native.Mathlib.Omega.{arith}
-use mathlib.Core.Bool.{Bool, true, false, cond}
-use Prim.Native.Nat.{ℕ, ◌+◌, ◌-◌, ◌≤◌}
-use mathlib.Core.Path.{◌≡◌, refl, sym, ap, ◌∙◌}
-use mathlib.Core.List.{List}
-use lib.ListN.{length, take, drop, length-drop}
-use lib.Seq.{take_all}
-use borrow.Author.Tests.{ltb-true, ltb-false, not-true, not-false}
-use Rattle.number_lists.specs.Lists.{fits, all_fit}
-use Rattle.number_lists.proofs.Laws.{none_left, no_length_left, next_list}
+use Prim.Native.Nat.{◌-◌, ◌≤◌}
+use mathlib.Core.Path.{◌≡◌}
+use lib.ListN.{length, drop}
+use Rattle.number_lists.specs.Lists.{all_fit}
 use Rattle.number_lists.proofs.all_fit.Given as goal
 
 abbrev pub invariant-loop-i : goal.invariant-loop-i
