@@ -16,7 +16,7 @@ for crate in $(sed 's/#.*//; s/[ :].*//' crates.txt); do
         grep -q "^| \`$crate\` | ${count:-0} |" docs/PROOFS.md || { echo "$crate: ${count:-0} axioms, and docs/PROOFS.md tells otherwise"; bad=1; }
     elif grep -q "^$crate staticlib" crates.txt; then
         counted "$crate"
-        [ -z "$count" ] || { echo "$crate is no program and has $count axioms"; bad=1; }
+        [ "${count:-0}" -eq 0 ] || { echo "$crate is no program and has $count axioms"; bad=1; }
     # the verdict on any other library counts none: an axiom is the contract of a C function that a crate declares
     elif grep -rqE 'extern "C" \{' "crates/$crate/src"; then
         echo "$crate is no program and declares C functions, whose contracts are axioms"

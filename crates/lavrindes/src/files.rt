@@ -75,7 +75,7 @@ pub fn read(rt: &HostRuntime, word: usize, text: &mut [u8]) -> Got {
     got
 }
 
-// A path that is no UTF-8 names no file that can be opened.
+// std takes a path as text, so one that is no UTF-8 cannot be opened.
 fn read_path(rt: &HostRuntime, path: &[u8], text: &mut [u8]) -> Got {
     if is_dash(path) {
         return read_to_end(rt.reader(), text);

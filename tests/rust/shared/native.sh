@@ -2,7 +2,7 @@
 
 # stale FILE: FILE is not there, or older than a source of the bench.
 stale() {
-    [ ! -s "$1" ] || [ -n "$(find crates crates.txt -name out -prune -o -newer "$1" -print | head -n 1)" ]
+    [ ! -s "$1" ] || [ -n "$(find crates crates.txt -name out -prune -o -type f -newer "$1" -print | head -n 1)" ]
 }
 
 # shadow_kit DIR KIT MACHINE: the kit again, but for a clang that keeps the LLVM module it is handed, as target/native/module.bc.

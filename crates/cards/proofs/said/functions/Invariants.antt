@@ -1,5 +1,5 @@
 -- `functions` is safe and ends: one turn for each length.
-use Rattle.std.proofs.Common.{◌-◌, ◌≤◌, length, rules}
+use Rattle.std.proofs.Common.{◌-◌, ◌≤◌, length}
 use Rattle.cards.proofs.said.functions.Given as goal
 
 abbrev pub invariant-loop-i : goal.invariant-loop-i

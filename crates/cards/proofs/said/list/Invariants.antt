@@ -1,5 +1,5 @@
 -- `list` is safe and ends: one turn for each number.
-use Rattle.std.proofs.Common.{◌-◌, ◌≤◌, length, rules}
+use Rattle.std.proofs.Common.{◌-◌, ◌≤◌, length}
 use Rattle.cards.proofs.said.list.Given as goal
 
 abbrev pub invariant-loop-i : goal.invariant-loop-i

@@ -1,7 +1,6 @@
 -- `written` is safe and ends: one turn for each length.
 use Prim.Native.Nat.{◌-◌, ◌≤◌}
-use native.Mathlib.Omega.{arith}
-use lib.ListN.{length, length-take}
+use lib.ListN.{length}
 use Rattle.lavrindes.proofs.asked.written.Given as goal
 
 abbrev pub invariant-loop-i : goal.invariant-loop-i
