@@ -15,7 +15,7 @@ use mir.Val.{SFits, to_z, of_z, sel}
 use Rattle.arith.specs.Signed.{signed_of, bits_of, fits_width}
 use Rattle.arith.specs.Product.{product_of}
 use Rattle.arith.specs.Power.{is_power_of_two}
-use Rattle.arith.specs.declared.Product.TheVariants.{Leaves}
+use Rattle.std.specs.Prelude.{None}
 use Rattle.arith.proofs.Widths.{fits_mag, fits_i64}
 use Rattle.arith.proofs.Products.{all_append}
 use Rattle.arith.proofs.Powers.{one_bit_below, power_is, power_only}
@@ -53,7 +53,7 @@ bits_of_signed b h = by (ltb b (2 ^ 63))
     by false = omega arith
 
 -- Once a partial product has left i64, so has the product of every longer list.
-pub left_stays_left : (xs ys : List ℤ) → product_of xs ≡ Leaves → product_of (xs ++ ys) ≡ Leaves
+pub left_stays_left : (xs ys : List ℤ) → product_of xs ≡ None → product_of (xs ++ ys) ≡ None
 unfolding product_of
 left_stays_left xs ys e = all_append (pos 1) xs ys ∙ rw e
 

@@ -10,8 +10,7 @@ use lib.Seq.{drop-cons}
 use lib.Signed.{mag}
 use Rattle.arith.specs.Signed.{fits_width}
 use Rattle.arith.specs.Product.{held, times_of, and_then, times_all, room_of}
-use Rattle.arith.specs.declared.Product.{Product}
-use Rattle.arith.specs.declared.Product.TheVariants.{Is, Leaves}
+use Rattle.std.specs.Prelude.{Option, Some, None}
 use Rattle.arith.proofs.Widths.{i64_fits, beyond_i64}
 
 -- ---- two numbers
@@ -42,15 +41,15 @@ zero_abs : (b : ℤ) → nat_abs b ≡ 0 → b ≡ pos 0
 zero_abs (pos n) e = ap pos e
 zero_abs (negsuc n) e = absurd (omega arith)
 
-pub times_zero : (a b : ℤ) → nat_abs b ≡ 0 → times_of a b ≡ Is (pos 0)
+pub times_zero : (a b : ℤ) → nat_abs b ≡ 0 → times_of a b ≡ Some (pos 0)
 unfolding times_of held fits_width
 times_zero a b e = ap (times_of a) (zero_abs b e) ∙ ap held (*ℤ-zero a)
 
-pub times_is : (a b : ℤ) → nat_abs a * nat_abs b ≤ room_of a b → times_of a b ≡ Is (a *ℤ b)
+pub times_is : (a b : ℤ) → nat_abs a * nat_abs b ≤ room_of a b → times_of a b ≡ Some (a *ℤ b)
 unfolding times_of held
 times_is a b h = rw (i64_fits (a *ℤ b) (within a b h))
 
-pub times_leaves : (a b : ℤ) → room_of a b < nat_abs a * nat_abs b → times_of a b ≡ Leaves
+pub times_leaves : (a b : ℤ) → room_of a b < nat_abs a * nat_abs b → times_of a b ≡ None
 unfolding times_of held
 times_leaves a b h = rw (beyond_i64 (a *ℤ b) (beyond a b h))
 
@@ -61,13 +60,13 @@ module _ (xs : List ℤ) (i : ℕ) (a : ℤ) where
   unfolding times_all
   all_step h = rw (add-one, drop-cons xs i (pos 0) h)
 
-  pub all_end : length xs ≤ i → times_all a (drop i xs) ≡ Is a
+  pub all_end : length xs ≤ i → times_all a (drop i xs) ≡ Some a
   unfolding times_all
   all_end h = rw (drop_of_length-le xs {i = i} h)
 
-after : (t : Product) (ds ys : List ℤ) → ((p : ℤ) → times_all p (ds ++ ys) ≡ and_then (times_all p ds) (λ q. times_all q ys)) → and_then t (λ p. times_all p (ds ++ ys)) ≡ and_then (and_then t (λ p. times_all p ds)) (λ q. times_all q ys)
-after (Is p) ds ys h = h p
-after Leaves ds ys h = refl
+after : (t : Option ℤ) (ds ys : List ℤ) → ((p : ℤ) → times_all p (ds ++ ys) ≡ and_then (times_all p ds) (λ q. times_all q ys)) → and_then t (λ p. times_all p (ds ++ ys)) ≡ and_then (and_then t (λ p. times_all p ds)) (λ q. times_all q ys)
+after (Some p) ds ys h = h p
+after None ds ys h = refl
 
 -- two lists, one after the other
 pub all_append : (a : ℤ) (xs ys : List ℤ) → times_all a (xs ++ ys) ≡ and_then (times_all a xs) (λ p. times_all p ys)

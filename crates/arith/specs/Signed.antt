@@ -1,8 +1,6 @@
 -- Signed numbers: their two's complement of 64 bits, the ranges of widths, the remainder.
-use Rattle.std.specs.Prelude.{ℕ, suc, ◌-◌, ◌^◌, Bool, cond, ◌&&◌, ltb, ℤ, pos, negsuc}
+use Rattle.std.specs.Prelude.{ℕ, suc, ◌-◌, ◌^◌, Bool, cond, ◌&&◌, ltb, ℤ, pos, negsuc, Option, Some, None}
 use Rattle.std.specs.Int.Signed.{lt_z, le_z, rem_z}
-use Rattle.arith.specs.declared.Remainder.{Remainder}
-use Rattle.arith.specs.declared.Remainder.TheVariants.{Is, NoDivisor}
 
 -- The number of 64 bits: the bits themselves below 2^63, and 2^64 less above. `negsuc n` is -(n + 1).
 unfoldable pub signed_of : ℕ → ℤ
@@ -25,5 +23,5 @@ unfoldable pub fits_width : ℕ → ℤ → Bool
 fits_width b v = ltb 0 b && le_z (least b) v && le_z v (greatest b)
 
 -- The remainder of l by s, with the sign of l. Paper: "signed remainders in tile extents"; the Rust asks first whether s is above 0.
-unfoldable pub remainder_of : ℤ → ℤ → Remainder
-remainder_of l s = cond (lt_z (pos 0) s) (Is (rem_z l s)) NoDivisor
+unfoldable pub remainder_of : ℤ → ℤ → Option ℤ
+remainder_of l s = cond (lt_z (pos 0) s) (Some (rem_z l s)) None

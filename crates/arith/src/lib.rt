@@ -7,18 +7,6 @@ ghost use Rattle.arith.specs.Signed.{signed_of, bits_of, fits_width, remainder_o
 ghost use Rattle.arith.specs.Product.{times_of, product_of, room_of};
 ghost use Rattle.arith.specs.Power.{is_power_of_two};
 
-#[derive(Clone, Copy)]
-pub enum Product {
-    Is(i64),
-    Leaves,
-}
-
-#[derive(Clone, Copy)]
-pub enum Remainder {
-    Is(i64),
-    NoDivisor,
-}
-
 // The number whose two's complement these bits are.
 pub fn signed(bits: u64) -> i64
     ensures { result ≡ signed_of bits }
@@ -71,23 +59,23 @@ fn room(a: i64, b: i64) -> u64
 }
 
 // a * b where that is an i64. One division of sizes tells, since the product itself may not be taken first.
-pub fn times(a: i64, b: i64) -> Product
+pub fn times(a: i64, b: i64) -> Option<i64>
     ensures { result ≡ times_of a b }
 {
     let x = size(a);
     let y = size(b);
     if y == 0 {
-        return Product::Is(0);
+        return Some(0);
     }
     let limit = room(a, b);
     if limit / y < x {
-        return Product::Leaves;
+        return None;
     }
-    Product::Is(a * b)
+    Some(a * b)
 }
 
 // The product from 1 and from the left; it leaves where a partial product does.
-pub fn product_of(dims: &[i64]) -> Product
+pub fn product_of(dims: &[i64]) -> Option<i64>
     ensures { result ≡ product_of dims.now }
 {
     let mut all: i64 = 1;
@@ -95,16 +83,16 @@ pub fn product_of(dims: &[i64]) -> Product
     while i < dims.len() {
         let d = dims[i];
         match times(all, d) {
-            Product::Is(p) => {
+            Some(p) => {
                 all = p;
             }
-            Product::Leaves => {
-                return Product::Leaves;
+            None => {
+                return None;
             }
         }
         i += 1;
     }
-    Product::Is(all)
+    Some(all)
 }
 
 // v lies in the signed range of so many bits. From 64 on every i64 does.
@@ -127,13 +115,13 @@ pub fn fits_width(bits: u64, v: i64) -> bool
 }
 
 // The remainder with the dividend's sign, for a divisor above 0.
-pub fn remainder_of(dividend: i64, divisor: i64) -> Remainder
+pub fn remainder_of(dividend: i64, divisor: i64) -> Option<i64>
     ensures { result ≡ remainder_of dividend divisor }
 {
     if 0 < divisor {
-        return Remainder::Is(dividend % divisor);
+        return Some(dividend % divisor);
     }
-    Remainder::NoDivisor
+    None
 }
 
 // x is one of the 64 powers of two that a u64 holds.

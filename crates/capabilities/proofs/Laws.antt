@@ -10,29 +10,28 @@ use Rattle.tables.specs.declared.Target.{Target}
 use Rattle.requirements.specs.Feature.{requirement_of}
 use Rattle.requirements.specs.Opcode.{opcode_feature}
 use Rattle.requirements.specs.Target.{target_feature}
-use Rattle.requirements.specs.declared.Asked.{Asked}
-use Rattle.requirements.specs.declared.Asked.TheVariants.{Feature, Nothing}
-use Rattle.requirements.specs.declared.Met.{Met}
-use Rattle.requirements.specs.declared.Met.TheVariants.{Yes, VersionLow, ArchitectureNot}
+use Rattle.std.specs.Prelude.{Option, Some, None, Result, Ok, Err, ⊤}
+use Rattle.requirements.specs.declared.Unmet.{Unmet}
+use Rattle.requirements.specs.declared.Unmet.TheVariants.{VersionLow, ArchitectureNot}
 use Rattle.requirements.proofs.Laws.{met_later}
 use Rattle.capabilities.specs.Ask.{ask, answered, operation_asks, capabilities}
 use Rattle.capabilities.specs.Part.{attribute_asks, operand_asks, result_asks}
 use Rattle.tables.proofs.Each.{both_accept, then_accepts, each_accepts}
 
-answered_yes : (i f : ℕ) (m : Met) → answered i f m ≡ Accepted → m ≡ Yes
-answered_yes i f Yes e = refl
-answered_yes i f VersionLow e = absurd (let z : ◌≡◌ {A = ℕ} 0 1 = cc in omega arith)
-answered_yes i f ArchitectureNot e = absurd (let z : ◌≡◌ {A = ℕ} 0 1 = cc in omega arith)
+answered_yes : (i f : ℕ) (m : Result ⊤ Unmet) → answered i f m ≡ Accepted → m ≡ Ok tt
+answered_yes i f (Ok tt) e = refl
+answered_yes i f (Err VersionLow) e = absurd (let z : ◌≡◌ {A = ℕ} 0 1 = cc in omega arith)
+answered_yes i f (Err ArchitectureNot) e = absurd (let z : ◌≡◌ {A = ℕ} 0 1 = cc in omega arith)
 
 -- the same sm at another version
 abbrev pub at_version : Target → ℕ → Target
 at_version g version = record { version = version; sm = g.sm }
 
 module _ (g : Target) (later : ℕ) (h : g.version ≤ later) where
-  pub ask_later : (i : ℕ) (asked : Asked) → ask g i asked ≡ Accepted → ask (at_version g later) i asked ≡ Accepted
+  pub ask_later : (i : ℕ) (asked : Option ℕ) → ask g i asked ≡ Accepted → ask (at_version g later) i asked ≡ Accepted
   unfolding ask
-  ask_later i Nothing e = refl
-  ask_later i (Feature f) e =
+  ask_later i None e = refl
+  ask_later i (Some f) e =
       ap (answered i f) (met_later (requirement_of f) g.version later g.sm h (answered_yes i f _ e))
 
   pub operation_later : (x : Tables) (i : ℕ) → operation_asks g x i ≡ Accepted → operation_asks (at_version g later) x i ≡ Accepted

@@ -14,10 +14,9 @@ use Rattle.tables.specs.declared.Target.{Target}
 use Rattle.requirements.specs.Feature.{requirement_of}
 use Rattle.requirements.specs.Met.{met_by}
 use Rattle.requirements.specs.Kind.{kind_feature}
-use Rattle.requirements.specs.declared.Asked.{Asked}
-use Rattle.requirements.specs.declared.Asked.TheVariants.{Feature, Nothing}
-use Rattle.requirements.specs.declared.Met.{Met}
-use Rattle.requirements.specs.declared.Met.TheVariants as met
+use Rattle.std.specs.Prelude.{Option, Some, None, Result, Ok, Err, ⊤}
+use Rattle.requirements.specs.declared.Unmet.{Unmet}
+use Rattle.requirements.specs.declared.Unmet.TheVariants.{VersionLow, ArchitectureNot}
 use Rattle.cells.proofs.Rows.{lt_or_ge}
 use mathlib.Core.Logic.{⊎_elim}
 use Rattle.capabilities.specs.Ask.{answered, ask, kind_asked}
@@ -26,15 +25,15 @@ use Rattle.capabilities.specs.Part.{Knows}
 impossible {ℓ} : {X : Type ℓ} → ◌≡◌ {A = ℕ} 0 1 → X
 impossible e = absurd (omega arith)
 
-has_it : (i j f : ℕ) (m : Met) → answered i f m ≡ Accepted → answered j f m ≡ Accepted
-has_it i j f met.Yes e = refl
-has_it i j f met.VersionLow e = impossible (cc)
-has_it i j f met.ArchitectureNot e = impossible (cc)
+has_it : (i j f : ℕ) (m : Result ⊤ Unmet) → answered i f m ≡ Accepted → answered j f m ≡ Accepted
+has_it i j f (Ok tt) e = refl
+has_it i j f (Err VersionLow) e = impossible (cc)
+has_it i j f (Err ArchitectureNot) e = impossible (cc)
 
-pub any_operation : (g : Target) (i j : ℕ) (a : Asked) → ask g i a ≡ Accepted → ask g j a ≡ Accepted
+pub any_operation : (g : Target) (i j : ℕ) (a : Option ℕ) → ask g i a ≡ Accepted → ask g j a ≡ Accepted
 unfolding ask
-any_operation g i j Nothing e = refl
-any_operation g i j (Feature f) e = has_it i j f (met_by (requirement_of f) g.version g.sm) e
+any_operation g i j None e = refl
+any_operation g i j (Some f) e = has_it i j f (met_by (requirement_of f) g.version g.sm) e
 
 -- a mark, where there is one, is true
 pub marked : (g : Target) (kinds : List ℕ) (k mark : ℕ) → (mark ≡ 1 → ask g 0 (kind_feature k) ≡ Accepted) → Knows g kinds → Knows g (set kinds k mark)

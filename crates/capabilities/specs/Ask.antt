@@ -1,7 +1,7 @@
 -- Version and architecture (codes 9 and 10): "A requirement asks version first, then architecture. The target's own comes first (id 0), then
 -- every reachable operation, outer before inner, the function operation included: opcode, attributes in order, element kinds of operands,
 -- then of results." "version too low; architecture not met | operation, feature".
-use Rattle.std.specs.Prelude.{ℕ, cond, List, eqb}
+use Rattle.std.specs.Prelude.{ℕ, cond, List, eqb, Option, Some, None, Result, Ok, Err, ⊤}
 use Rattle.tables.specs.Tables.{Tables, opcode, operands, result_types, attributes, value_type, type_form, type_kind, attribute_name, attribute_form, attribute_numbers}
 use Rattle.tables.specs.Answer.{and_then, each}
 use Rattle.tables.specs.declared.Target.{Target}
@@ -14,26 +14,24 @@ use Rattle.requirements.specs.Target.{target_feature}
 use Rattle.requirements.specs.Opcode.{opcode_feature}
 use Rattle.requirements.specs.Kind.{kind_feature}
 use Rattle.requirements.specs.Attribute.{attribute_feature}
-use Rattle.requirements.specs.declared.Asked.{Asked}
-use Rattle.requirements.specs.declared.Asked.TheVariants.{Feature, Nothing}
-use Rattle.requirements.specs.declared.Met.{Met}
-use Rattle.requirements.specs.declared.Met.TheVariants as met
+use Rattle.requirements.specs.declared.Unmet.{Unmet}
+use Rattle.requirements.specs.declared.Unmet.TheVariants as unmet
 
 -- what operation i's feature f says
-abbrev pub answered : ℕ → ℕ → Met → Answer
-answered i f met.Yes = Accepted
-answered i f met.VersionLow = Refused (VersionLow i f)
-answered i f met.ArchitectureNot = Refused (ArchitectureNot i f)
+abbrev pub answered : ℕ → ℕ → Result ⊤ Unmet → Answer
+answered i f (Ok tt) = Accepted
+answered i f (Err unmet.VersionLow) = Refused (VersionLow i f)
+answered i f (Err unmet.ArchitectureNot) = Refused (ArchitectureNot i f)
 
-unfoldable pub ask : Target → ℕ → Asked → Answer
-ask g i Nothing = Accepted
-ask g i (Feature f) = answered i f (met_by (requirement_of f) g.version g.sm)
+unfoldable pub ask : Target → ℕ → Option ℕ → Answer
+ask g i None = Accepted
+ask g i (Some f) = answered i f (met_by (requirement_of f) g.version g.sm)
 
 -- "A view's kind is its tensor's, a pointer tile's is its pointee's, pointer attribute or not. Each kind is judged on its own."; a token has none
-unfoldable pub kind_asked : Tables → ℕ → Asked
-kind_asked x ty = cond (eqb (type_form x ty) 0) Nothing (kind_feature (type_kind x ty))
+unfoldable pub kind_asked : Tables → ℕ → Option ℕ
+kind_asked x ty = cond (eqb (type_form x ty) 0) None (kind_feature (type_kind x ty))
 
-unfoldable pub attribute_asked : Tables → ℕ → ℕ → Asked
+unfoldable pub attribute_asked : Tables → ℕ → ℕ → Option ℕ
 attribute_asked x i k = attribute_feature (opcode x i) (attribute_name x k) (attribute_form x k) (attribute_numbers x k)
 
 unfoldable pub operation_asks : Target → Tables → ℕ → Answer

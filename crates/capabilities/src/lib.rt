@@ -8,22 +8,22 @@ ghost use Rattle.requirements.specs.Kind.{kind_feature};
 ghost use Rattle.capabilities.specs.Ask.{ask, kind_asked, attribute_asked, operation_asks, capabilities};
 ghost use Rattle.capabilities.specs.Part.{Knows, tables_of_attributes, tables_of_operands, tables_of_types, attribute_asks, operand_asks, result_asks};
 
-use requirements::{Asked, Met};
+use requirements::Unmet;
 use tables::{Answer, Counts, Refusal, Target};
 
 // How many element kinds there are.
 const KINDS: u64 = 16;
 
 // What the target says to a feature that an operation asks for.
-pub fn ask(g: Target, operation: u64, asked: Asked) -> Answer
+pub fn ask(g: Target, operation: u64, asked: Option<u64>) -> Answer
     ensures { result ≡ ask g operation asked }
 {
     match asked {
-        Asked::Nothing => Answer::Accepted,
-        Asked::Feature(feature) => match requirements::requirement_met(feature, g.version, g.sm) {
-            Met::Yes => Answer::Accepted,
-            Met::VersionLow => Answer::Refused(Refusal::VersionLow { operation, feature }),
-            Met::ArchitectureNot => Answer::Refused(Refusal::ArchitectureNot {
+        None => Answer::Accepted,
+        Some(feature) => match requirements::requirement_met(feature, g.version, g.sm) {
+            Ok(()) => Answer::Accepted,
+            Err(Unmet::VersionLow) => Answer::Refused(Refusal::VersionLow { operation, feature }),
+            Err(Unmet::ArchitectureNot) => Answer::Refused(Refusal::ArchitectureNot {
                 operation,
                 feature,
             }),
@@ -75,7 +75,7 @@ fn attribute_asked(
     n: Counts,
     operation: u64,
     attribute: u64,
-) -> Asked
+) -> Option<u64>
     ensures { result ≡ attribute_asked (tables_of_attributes o.now a.now l.now n) operation attribute }
 {
     let opcode = tables::opcode(o, n, operation);

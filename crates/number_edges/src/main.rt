@@ -205,10 +205,10 @@ fn remainder_line(a: i64, b: i64) {
     number(b);
     text(b"\t");
     match arith::remainder_of(a, b) {
-        arith::Remainder::Is(r) => {
+        Some(r) => {
             number(r);
         }
-        arith::Remainder::NoDivisor => {
+        None => {
             text(b"none");
         }
     }
@@ -239,13 +239,13 @@ fn comma_after_first(i: usize) {
 }
 
 // The last field of a line.
-fn product(p: arith::Product) {
+fn product(p: Option<i64>) {
     text(b"\t");
     match p {
-        arith::Product::Is(v) => {
+        Some(v) => {
             number(v);
         }
-        arith::Product::Leaves => {
+        None => {
             text(b"leaves");
         }
     }

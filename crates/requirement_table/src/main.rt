@@ -1,7 +1,7 @@
 // Prints every answer of `requirements`: each feature against each version and target, each target, opcode and kind, and attributes.
 #![tactic(auto)]
 
-use requirements::{Architecture, Asked, Met, Requirement};
+use requirements::{Architecture, Requirement, Unmet};
 
 const OUT: i32 = 1;
 
@@ -41,15 +41,15 @@ fn verdicts(feature: u64, version: u64, targets: &[u64]) {
     }
 }
 
-fn letter(met: Met) {
+fn letter(met: Result<(), Unmet>) {
     match met {
-        Met::Yes => {
+        Ok(()) => {
             text(b"+");
         }
-        Met::VersionLow => {
+        Err(Unmet::VersionLow) => {
             text(b"v");
         }
-        Met::ArchitectureNot => {
+        Err(Unmet::ArchitectureNot) => {
             text(b"a");
         }
     }
@@ -86,12 +86,12 @@ fn kinds() {
 }
 
 // What is asked, as a requirement: the rest of a line.
-fn needed(asked: Asked) {
+fn needed(asked: Option<u64>) {
     match asked {
-        Asked::Feature(feature) => {
+        Some(feature) => {
             requirement(requirements::feature_requirement(feature));
         }
-        Asked::Nothing => {
+        None => {
             text(b"\tnone");
         }
     }
@@ -170,11 +170,11 @@ fn attribute_line(opcode: u64, name: u64, form: u64, number: u64, entries: &[u64
     text(b"\t");
     count(number);
     match requirements::attribute_feature(opcode, name, form, entries) {
-        Asked::Feature(feature) => {
+        Some(feature) => {
             text(b"\t");
             count(feature);
         }
-        Asked::Nothing => {
+        None => {
             text(b"\tnone");
         }
     }

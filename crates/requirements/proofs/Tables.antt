@@ -15,7 +15,7 @@ use Rattle.requirements.specs.Target.{Target, target, find_in, feature_of}
 use Rattle.requirements.specs.declared.Architecture.{Architecture}
 use Rattle.requirements.specs.declared.Architecture.TheVariants.{Any, AtLeast, Only}
 use Rattle.requirements.specs.declared.Requirement.{Requirement}
-use Rattle.requirements.specs.declared.Asked.TheVariants.{Feature, Nothing}
+use Rattle.std.specs.Prelude.{Some, None}
 
 -- the columns that the code's tables keep of the requirements
 abbrev pub sinces : List Requirement → List ℕ
@@ -42,10 +42,10 @@ row (r ∷ rs) zero = ap (need r.since) (and_back r.architecture)
 row (r ∷ rs) (suc k) = row rs k
 
 module _ (table : List ℕ) (position : ℕ) where
-  pub inside : position < length table → Feature (get_or table position 0) ≡ asked_at table position
+  pub inside : position < length table → Some (get_or table position 0) ≡ asked_at table position
   inside h = simp (lt-ltb _ _ h)
 
-  pub outside : length table ≤ position → Nothing ≡ asked_at table position
+  pub outside : length table ≤ position → None ≡ asked_at table position
   outside h = simp (le-ltb _ _ h)
 
 -- the code's tables hold bytes
@@ -70,7 +70,7 @@ abbrev pub no_target : Target
 no_target = target 0 0
 
 module _ (ts : List Target) (sm i : ℕ) (h : i < length ts) where
-  pub here : targets.sm_of (get_or ts i no_target) ≡ sm → find_in (drop i ts) sm ≡ Feature (feature_of (get_or ts i no_target))
+  pub here : targets.sm_of (get_or ts i no_target) ≡ sm → find_in (drop i ts) sm ≡ Some (feature_of (get_or ts i no_target))
   here e = rw (drop-cons ts i no_target) (simp (eq-eqb _ _ e))
 
   pub next : (targets.sm_of (get_or ts i no_target) ≡ sm → ⊥) → find_in (drop i ts) sm ≡ find_in (drop (i + 1) ts) sm

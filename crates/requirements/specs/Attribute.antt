@@ -1,12 +1,10 @@
 -- The feature that an attribute of an operation asks for: `attribute_feature` of requirements.rs.
 -- An attribute is its name's number, its form and its list entries. An integer or a bool is the list's first entry. A bool is true
 -- exactly where its entry is 1: tables with anything but 0 and 1 there are refused before.
-use Rattle.std.specs.Prelude.{ℕ, List, [], ◌∷◌, Bool, true, false, not, ◌&&◌, cond, get_or, eqb}
+use Rattle.std.specs.Prelude.{ℕ, List, [], ◌∷◌, Bool, true, false, not, ◌&&◌, cond, get_or, eqb, Option, Some, None}
 use Rattle.names.specs.Names as names
 use Rattle.names.specs.Names.{integer_form, bool_form, bools_form}
 use Rattle.requirements.specs.Feature as features
-use Rattle.requirements.specs.declared.Asked.{Asked}
-use Rattle.requirements.specs.declared.Asked.TheVariants.{Feature, Nothing}
 
 -- the opcode of the exponential
 abbrev pub exp : ℕ
@@ -38,13 +36,13 @@ exp_rounded opcode name form number =
     eqb name names.rounding_mode && (eqb form integer_form && (eqb opcode exp && not (eqb number full)))
 
 -- the first line that fits, in the order of the Rust's match
-unfoldable pub attribute_feature : ℕ → ℕ → ℕ → List ℕ → Asked
+unfoldable pub attribute_feature : ℕ → ℕ → ℕ → List ℕ → Option ℕ
 attribute_feature opcode name form numbers =
     let number = get_or numbers 0 0 in
-    cond (is_value names.rounding_mode integer_form away name form number) (Feature features.nearest_away)
-    (cond (is_value names.saturating bool_form 1 name form number) (Feature features.saturating_fto_i)
-    (cond (has_true names.inbounds name form numbers) (Feature features.inbounds)
-    (cond (is_value names.fast_acc bool_form 1 name form number) (Feature features.fast_accumulation)
-    (cond (eqb name names.producer) (Feature features.producer)
-    (cond (exp_rounded opcode name form number) (Feature features.exp_rounding)
-    Nothing)))))
+    cond (is_value names.rounding_mode integer_form away name form number) (Some features.nearest_away)
+    (cond (is_value names.saturating bool_form 1 name form number) (Some features.saturating_fto_i)
+    (cond (has_true names.inbounds name form numbers) (Some features.inbounds)
+    (cond (is_value names.fast_acc bool_form 1 name form number) (Some features.fast_accumulation)
+    (cond (eqb name names.producer) (Some features.producer)
+    (cond (exp_rounded opcode name form number) (Some features.exp_rounding)
+    None)))))

@@ -1,6 +1,5 @@
 -- The feature of each of the 16 element kinds: `scalar_requirement` of requirements.rs, in the order of the paper.
-use Rattle.std.specs.Prelude.{ℕ, List, [], ◌∷◌}
-use Rattle.requirements.specs.declared.Asked.{Asked}
+use Rattle.std.specs.Prelude.{ℕ, List, [], ◌∷◌, Option}
 use Rattle.requirements.specs.Position.{asked_at}
 use Rattle.requirements.specs.Feature.{baseline, int4, fp8, e8_scale, fp4, f8e5m3fnu}
 
@@ -25,5 +24,5 @@ kinds =
     []
 
 -- what an element kind asks for: `scalar_requirement`
-unfoldable pub kind_feature : ℕ → Asked
+unfoldable pub kind_feature : ℕ → Option ℕ
 kind_feature kind = asked_at kinds kind

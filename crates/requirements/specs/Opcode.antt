@@ -1,6 +1,5 @@
 -- The feature of each of the 105 opcodes: the `operations!` rows of requirements.rs, in the order of `OPCODES`.
-use Rattle.std.specs.Prelude.{ℕ, List, [], ◌∷◌}
-use Rattle.requirements.specs.declared.Asked.{Asked}
+use Rattle.std.specs.Prelude.{ℕ, List, [], ◌∷◌, Option}
 use Rattle.requirements.specs.Position.{asked_at}
 use Rattle.requirements.specs.Feature.{baseline, packing, allocation, scaled_mma, gather_scatter_view, strided_view, atomic_red_view, insert, gdc_tokens, integer_power, alias_fence}
 
@@ -114,5 +113,5 @@ opcodes =
     []
 
 -- what an opcode asks for: `opcode_requirement`
-unfoldable pub opcode_feature : ℕ → Asked
+unfoldable pub opcode_feature : ℕ → Option ℕ
 opcode_feature opcode = asked_at opcodes opcode

@@ -1,7 +1,5 @@
 -- The 12 targets and the feature that each asks for: `TARGETS` of requirements.rs.
-use Rattle.std.specs.Prelude.{ℕ, List, [], ◌∷◌, eqb, cond}
-use Rattle.requirements.specs.declared.Asked.{Asked}
-use Rattle.requirements.specs.declared.Asked.TheVariants.{Feature, Nothing}
+use Rattle.std.specs.Prelude.{ℕ, List, [], ◌∷◌, eqb, cond, Option, Some, None}
 use Rattle.requirements.specs.Feature.{baseline, hopper_target, rubin_target}
 
 -- a target's sm, and its feature
@@ -31,10 +29,10 @@ targets =
     []
 
 -- the feature of the first target with this sm
-abbrev pub find_in : List Target → ℕ → Asked
-find_in [] sm = Nothing
-find_in (t ∷ ts) sm = cond (eqb (sm_of t) sm) (Feature (feature_of t)) (find_in ts sm)
+abbrev pub find_in : List Target → ℕ → Option ℕ
+find_in [] sm = None
+find_in (t ∷ ts) sm = cond (eqb (sm_of t) sm) (Some (feature_of t)) (find_in ts sm)
 
 -- what a target asks for itself: `target_requirement`
-unfoldable pub target_feature : ℕ → Asked
+unfoldable pub target_feature : ℕ → Option ℕ
 target_feature sm = find_in targets sm

@@ -23,17 +23,11 @@ pub struct Requirement {
     pub architecture: Architecture,
 }
 
-#[derive(Clone, Copy)]
-pub enum Met {
-    Yes,
+// Why a target doesn't meet what a feature requires.
+#[derive(Clone, Copy, PartialEq, Eq)]
+pub enum Unmet {
     VersionLow,
     ArchitectureNot,
-}
-
-#[derive(Clone, Copy)]
-pub enum Asked {
-    Feature(u64),
-    Nothing,
 }
 
 // The opcode of the exponential.
@@ -118,68 +112,68 @@ pub fn feature_requirement(feature: u64) -> Requirement
 }
 
 // Whether a target meets what a feature requires: the version is asked first, then the architecture.
-pub fn requirement_met(feature: u64, version: u64, sm: u64) -> Met
+pub fn requirement_met(feature: u64, version: u64, sm: u64) -> Result<(), Unmet>
     ensures { result ≡ met_by (requirement_of feature) version sm }
 {
     let need = feature_requirement(feature);
     if version < need.since {
-        return Met::VersionLow;
+        return Err(Unmet::VersionLow);
     }
     let architecture = need.architecture;
     match architecture {
-        Architecture::Any => Met::Yes,
+        Architecture::Any => Ok(()),
         Architecture::AtLeast(least) => {
             if least <= sm {
-                Met::Yes
+                Ok(())
             } else {
-                Met::ArchitectureNot
+                Err(Unmet::ArchitectureNot)
             }
         }
         Architecture::Only(one) => {
             if sm == one {
-                Met::Yes
+                Ok(())
             } else {
-                Met::ArchitectureNot
+                Err(Unmet::ArchitectureNot)
             }
         }
     }
 }
 
 // The target's own feature.
-pub fn target_requirement(sm: u64) -> Asked
+pub fn target_requirement(sm: u64) -> Option<u64>
     ensures { result ≡ target_feature sm }
 {
     let mut i: usize = 0;
     while i < 12 {
         if TARGET_SM[i] as u64 == sm {
-            return Asked::Feature(TARGET_FEATURE[i] as u64);
+            return Some(TARGET_FEATURE[i] as u64);
         }
         i += 1;
     }
-    Asked::Nothing
+    None
 }
 
 // The opcode's feature.
-pub fn opcode_requirement(opcode: u64) -> Asked
+pub fn opcode_requirement(opcode: u64) -> Option<u64>
     ensures { result ≡ opcode_feature opcode }
 {
     if opcode < 105 {
         let i = opcode as usize;
-        Asked::Feature(OPCODE[i] as u64)
+        Some(OPCODE[i] as u64)
     } else {
-        Asked::Nothing
+        None
     }
 }
 
 // The element kind's feature.
-pub fn scalar_requirement(kind: u64) -> Asked
+pub fn scalar_requirement(kind: u64) -> Option<u64>
     ensures { result ≡ kind_feature kind }
 {
     if kind < 16 {
         let i = kind as usize;
-        Asked::Feature(KIND[i] as u64)
+        Some(KIND[i] as u64)
     } else {
-        Asked::Nothing
+        None
     }
 }
 
@@ -247,27 +241,27 @@ fn exp_rounded(opcode: u64, name: u64, form: u64, number: u64) -> bool
 }
 
 // The feature that an attribute of an operation asks for.
-pub fn attribute_feature(opcode: u64, name: u64, form: u64, numbers: &[u64]) -> Asked
+pub fn attribute_feature(opcode: u64, name: u64, form: u64, numbers: &[u64]) -> Option<u64>
     ensures { result ≡ attribute_feature opcode name form numbers.now }
 {
     let number = first(numbers);
     if is_value(ROUNDING_MODE, INTEGER, 7, name, form, number) {
-        return Asked::Feature(NEAREST_AWAY);
+        return Some(NEAREST_AWAY);
     }
     if is_value(SATURATING, BOOL, 1, name, form, number) {
-        return Asked::Feature(SATURATING_F_TO_I);
+        return Some(SATURATING_F_TO_I);
     }
     if has_true(INBOUNDS, name, form, numbers) {
-        return Asked::Feature(INBOUNDS_FEATURE);
+        return Some(INBOUNDS_FEATURE);
     }
     if is_value(FAST_ACC, BOOL, 1, name, form, number) {
-        return Asked::Feature(FAST_ACCUMULATION);
+        return Some(FAST_ACCUMULATION);
     }
     if name == PRODUCER {
-        return Asked::Feature(PRODUCER_FEATURE);
+        return Some(PRODUCER_FEATURE);
     }
     if exp_rounded(opcode, name, form, number) {
-        return Asked::Feature(EXP_ROUNDING);
+        return Some(EXP_ROUNDING);
     }
-    Asked::Nothing
+    None
 }

@@ -1,9 +1,7 @@
 -- The table checks in turn. "The full check over tables asks 16, 1, 2, 3, 4 in turn"; "Each part called alone asks 1 to 4 first (16
 -- before, if lent the target)."
-use Rattle.std.specs.Prelude.{Bool, true, false, ◌&&◌, ◌||◌, cond, List, ℕ, eqb}
+use Rattle.std.specs.Prelude.{Bool, true, false, ◌&&◌, ◌||◌, cond, List, ℕ, eqb, Option, Some, None}
 use Rattle.requirements.specs.Target.{target_feature}
-use Rattle.requirements.specs.declared.Asked.{Asked}
-use Rattle.requirements.specs.declared.Asked.TheVariants.{Feature, Nothing}
 use Rattle.tables.specs.Tables.{Tables}
 use Rattle.tables.specs.Answer.{and_then}
 use Rattle.tables.specs.declared.Target.{Target}
@@ -16,9 +14,9 @@ use Rattle.walk.specs.Depth.{too_deep}
 use Rattle.values.specs.Twice.{values_twice}
 
 -- 16: "version not 13.2, 13.3, 13.4 or sm not in `TARGETS` | 0, 0"
-abbrev pub is_target : Asked → Bool
-is_target (Feature f) = true
-is_target Nothing = false
+abbrev pub is_target : Option ℕ → Bool
+is_target (Some f) = true
+is_target None = false
 
 unfoldable pub is_version : ℕ → Bool
 is_version minor = eqb minor 2 || eqb minor 3 || eqb minor 4

@@ -7,7 +7,6 @@ ghost use Rattle.walk.specs.Order.{order};
 ghost use Rattle.table_checks.specs.Checks.{is_version, target_check, table_checks, sheet_checks};
 ghost use Rattle.table_checks.specs.Checked.{Settles, after_cut, Hands, HandsCut};
 
-use requirements::Asked;
 use tables::{Answer, Counts, Refusal, Target};
 use walk::Walked;
 
@@ -38,8 +37,8 @@ pub fn check_target(g: Target) -> Answer
         return Answer::Refused(Refusal::NoTarget);
     }
     match requirements::target_requirement(g.sm) {
-        Asked::Feature(_) => Answer::Accepted,
-        Asked::Nothing => Answer::Refused(Refusal::NoTarget),
+        Some(_) => Answer::Accepted,
+        None => Answer::Refused(Refusal::NoTarget),
     }
 }
 

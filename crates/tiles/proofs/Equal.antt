@@ -11,7 +11,7 @@ use mir.Val.{SFits, of_z, to_z}
 use mir.Facts.{to_z-of_z}
 use borrow.Author.Tests.{eq-eqb, ne_eqb, eqb-true, eqb-false, lt-ltb}
 use Rattle.arith.specs.Signed.{remainder_of}
-use Rattle.arith.specs.declared.Remainder.TheVariants.{Is, NoDivisor}
+use Rattle.std.specs.Prelude.{Some, None}
 use Rattle.tiles.specs.Shape.{eq_z, undivided_by}
 
 pub small_fits : (n : ℕ) → n < 2 ^ 63 → SFits w64 (pos n)
@@ -50,19 +50,19 @@ at_most_zero (pos (suc n)) = leb-suc-zero n ∙ ap not (sym (lt-ltb 0 (suc n) (o
 at_most_zero (negsuc n) = refl
 
 module _ (s l : ℤ) where
-  pub rest_is : (r : ℤ) → remainder_of l s ≡ Is r → undivided_by s l ≡ not (eq_z r (pos 0))
+  pub rest_is : (r : ℤ) → remainder_of l s ≡ Some r → undivided_by s l ≡ not (eq_z r (pos 0))
   unfolding undivided_by remainder_of
   rest_is r e = rw (at_most_zero s) (by (lt_z (pos 0) s) e)
     where
-      by : (b : Bool) → cond b (Is (rem_z l s)) NoDivisor ≡ Is r → (not b || not (eq_z (rem_z l s) (pos 0))) ≡ not (eq_z r (pos 0))
+      by : (b : Bool) → cond b (Some (rem_z l s)) None ≡ Some r → (not b || not (eq_z (rem_z l s) (pos 0))) ≡ not (eq_z r (pos 0))
       by true e = let q : rem_z l s ≡ r = cc in rw q
       by false e = let z : ◌≡◌ {A = ℕ} 0 1 = cc in absurd (omega arith)
 
-  pub no_divisor : remainder_of l s ≡ NoDivisor → undivided_by s l ≡ true
+  pub no_divisor : remainder_of l s ≡ None → undivided_by s l ≡ true
   unfolding undivided_by remainder_of
   no_divisor e = rw (at_most_zero s) (by (lt_z (pos 0) s) e)
     where
-      by : (b : Bool) → cond b (Is (rem_z l s)) NoDivisor ≡ NoDivisor → (not b || not (eq_z (rem_z l s) (pos 0))) ≡ true
+      by : (b : Bool) → cond b (Some (rem_z l s)) None ≡ None → (not b || not (eq_z (rem_z l s) (pos 0))) ≡ true
       by true e = let z : ◌≡◌ {A = ℕ} 0 1 = cc in absurd (omega arith)
       by false e = refl
 

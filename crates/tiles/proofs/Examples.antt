@@ -7,7 +7,7 @@ use lib.IntN.{ℤ, pos, negsuc}
 use lib.ListN.{length, replicate}
 use Rattle.arith.specs.Signed.{signed_of, fits_width}
 use Rattle.arith.specs.Product.{held, times_of, times_all, product_of}
-use Rattle.arith.specs.declared.Product.TheVariants.{Is, Leaves}
+use Rattle.std.specs.Prelude.{Some, None}
 use Rattle.tables.specs.Layout.{form_in, kind_in, pointer_in, rank_in, dims_in}
 use Rattle.tables.specs.Sheet.{byte_width_in, tile_flag_in, tile_through_in}
 use Rattle.tables.specs.declared.Counts.{Counts}
@@ -78,11 +78,11 @@ unfolding is_permuted is_permutation has_axes moved_from same_element same_rank 
 no_permutation = refl
 
 -- card 12: 2^31 by 2^31 has its product, 2^32 by 2^31 has not
-has_product : count_of (of I8 (pos (2 ^ 31) ∷ pos (2 ^ 31) ∷ [])) ≡ Is (pos (2 ^ 62))
+has_product : count_of (of I8 (pos (2 ^ 31) ∷ pos (2 ^ 31) ∷ [])) ≡ Some (pos (2 ^ 62))
 unfolding count_of dims_of product_of times_all times_of held fits_width
 has_product = refl
 
-leaves : count_of (of I8 (pos (2 ^ 32) ∷ pos (2 ^ 31) ∷ [])) ≡ Leaves
+leaves : count_of (of I8 (pos (2 ^ 32) ∷ pos (2 ^ 31) ∷ [])) ≡ None
 unfolding count_of dims_of product_of times_all times_of held fits_width
 leaves = refl
 

@@ -3,8 +3,7 @@ use Rattle.std.specs.Prelude.{ℕ, zero, suc, Bool, true, false, not, ◌&&◌, 
 use Rattle.std.specs.Int.Signed.{lt_z, rem_z}
 use Rattle.cells.specs.Lists.{mem}
 use Rattle.arith.specs.Product.{times_of, and_then}
-use Rattle.arith.specs.declared.Product.{Product}
-use Rattle.arith.specs.declared.Product.TheVariants.{Is, Leaves}
+use Rattle.std.specs.Prelude.{Option, Some, None}
 use Rattle.tiles.specs.Kind.{I1, I8, I16, I32, F16, BF16, F32, F64, bits_in}
 use Rattle.tiles.specs.Tile.{dims_of, rank_of, dim_of, is_tile, is_number, has_kind, same_element, points_to}
 use Rattle.tiles.specs.Shape.{eq_z, any_pair, same_dim, same_rank, same_shape, same_tile, is_uneven, is_stretched, count_of, same_product}
@@ -54,13 +53,13 @@ is_packable sheet src dst =
     && not (eqb (bits_in sheet src.kind) (bits_in sheet dst.kind))
 
 -- the bits of all elements: "Pack and unpack also give 12 where a count times its bits leaves i64"
-unfoldable pub bit_count_of : List ℕ → Tile → Product
+unfoldable pub bit_count_of : List ℕ → Tile → Option ℤ
 bit_count_of sheet t = and_then (count_of t) (λ p. times_of p (pos (bits_in sheet t.kind)))
 
 -- whole bytes
-abbrev pub in_bytes : Product → Bool
-in_bytes (Is p) = eq_z (rem_z p (pos 8)) (pos 0)
-in_bytes Leaves = false
+abbrev pub in_bytes : Option ℤ → Bool
+in_bytes (Some p) = eq_z (rem_z p (pos 8)) (pos 0)
+in_bytes None = false
 
 -- Pack and Unpack: as many bits on both sides, in whole bytes
 unfoldable pub is_packed : List ℕ → Tile → Tile → Bool

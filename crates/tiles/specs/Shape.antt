@@ -2,8 +2,7 @@
 use Rattle.std.specs.Prelude.{ℕ, Bool, true, false, not, cond, ◌&&◌, ◌||◌, List, [], ◌∷◌, eqb, ℤ, pos, negsuc}
 use Rattle.std.specs.Int.Signed.{lt_z, le_z, quot_z, rem_z}
 use Rattle.arith.specs.Product.{product_of}
-use Rattle.arith.specs.declared.Product.{Product}
-use Rattle.arith.specs.declared.Product.TheVariants.{Is, Leaves}
+use Rattle.std.specs.Prelude.{Option, Some, None}
 use Rattle.tiles.specs.Tile.{dims_of, rank_of, dim_of, same_element}
 use Rattle.tiles.specs.declared.Tile.{Tile}
 
@@ -62,16 +61,16 @@ quotient_of l s = cond (lt_z (pos 0) s) (quot_z l s) (pos 0)
 -- ---- how many elements
 
 -- the product of the dims, from the left
-unfoldable pub count_of : Tile → Product
+unfoldable pub count_of : Tile → Option ℤ
 count_of t = product_of (dims_of t)
 
 -- it is outside i64
-abbrev pub has_left : Product → Bool
-has_left (Is p) = false
-has_left Leaves = true
+abbrev pub has_left : Option ℤ → Bool
+has_left (Some p) = false
+has_left None = true
 
 -- two products that are i64s, and the same
-abbrev pub same_product : Product → Product → Bool
-same_product (Is p) (Is q) = eq_z p q
-same_product (Is p) Leaves = false
-same_product Leaves q = false
+abbrev pub same_product : Option ℤ → Option ℤ → Bool
+same_product (Some p) (Some q) = eq_z p q
+same_product (Some p) None = false
+same_product None q = false

@@ -11,7 +11,6 @@ ghost use Rattle.tiles.specs.Shape.{eq_z, any_pair, all_pairs, same_dim, same_ra
 ghost use Rattle.tiles.specs.Rules.{same_bits, is_bitcast, is_reshape, is_broadcast, has_axes, is_permutation, moved_from, is_permuted, is_packable, bit_count_of, in_bytes, is_packed, atomic_differs, is_word, is_wrong_mask, outside_dim, is_group_outside, is_groups_outside, is_power_base, is_power_exponent, is_no_part, is_index, is_axis_index};
 ghost use Rattle.tiles.specs.Mma.{row_of, column_of, mma_ranks_differ, mma_dims_differ, is_mma_pair, is_mma_kinds, scale_ranks_differ, scale_dims_differ, vector_of, is_scaled, is_scale_kinds};
 
-use arith::{Product, Remainder};
 use cells::Span;
 use tables::Counts;
 
@@ -314,8 +313,8 @@ pub fn undivided(small: i64, large: i64) -> bool
     ensures { result ≡ undivided_by small large }
 {
     match arith::remainder_of(large, small) {
-        Remainder::Is(rest) => rest != 0,
-        Remainder::NoDivisor => true,
+        Some(rest) => rest != 0,
+        None => true,
     }
 }
 
@@ -363,7 +362,7 @@ pub fn stretched(src: Tile, dst: Tile) -> bool
 }
 
 // The product of the dims, from the left.
-pub fn count(t: Tile) -> Product
+pub fn count(t: Tile) -> Option<i64>
     ensures { result ≡ count_of t }
 {
     let n = rank(t) as usize;
@@ -372,25 +371,25 @@ pub fn count(t: Tile) -> Product
 }
 
 // A product that is no i64.
-pub fn has_left(p: Product) -> bool
+pub fn has_left(p: Option<i64>) -> bool
     ensures { result ≡ has_left p }
 {
     match p {
-        Product::Is(_) => false,
-        Product::Leaves => true,
+        Some(_) => false,
+        None => true,
     }
 }
 
 // Two products that are i64s, and the same.
-pub fn same_product(p: Product, q: Product) -> bool
+pub fn same_product(p: Option<i64>, q: Option<i64>) -> bool
     ensures { result ≡ same_product p q }
 {
-    let Product::Is(x) = p else {
+    let Some(x) = p else {
         return false;
     };
     match q {
-        Product::Is(y) => x == y,
-        Product::Leaves => false,
+        Some(y) => x == y,
+        None => false,
     }
 }
 
@@ -503,21 +502,21 @@ pub fn is_packable(sheet: &[u64], src: Tile, dst: Tile) -> bool
 }
 
 // The bits of all elements.
-pub fn bit_count(sheet: &[u64], t: Tile) -> Product
+pub fn bit_count(sheet: &[u64], t: Tile) -> Option<i64>
     ensures { result ≡ bit_count_of sheet.now t }
 {
-    let Product::Is(n) = count(t) else {
-        return Product::Leaves;
+    let Some(n) = count(t) else {
+        return None;
     };
     arith::times(n, bits(sheet, t.kind) as i64)
 }
 
-fn in_bytes(p: Product) -> bool
+fn in_bytes(p: Option<i64>) -> bool
     ensures { result ≡ in_bytes p }
 {
     match p {
-        Product::Is(n) => !undivided(8, n),
-        Product::Leaves => false,
+        Some(n) => !undivided(8, n),
+        None => false,
     }
 }
 

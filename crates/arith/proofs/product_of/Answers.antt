@@ -17,8 +17,8 @@ unfolding product_of
 loop-i-init c =
     (search rules, refl)
 
-pub returns-in-Leaves : goal.returns-in-Leaves
-returns-in-Leaves c =
+pub returns-in-None : goal.returns-in-None
+returns-in-None c =
     let f : SFits w64 (get_or c.args.dims.now c.loop-i.i (pos 0)) = search rules in
     let called : c.times.result ≡ times_of (to_z w64 c.loop-i.all-bits) (get_or c.args.dims.now c.loop-i.i (pos 0)) =
     simp (to_z-of_z f) at c.times.ensures
@@ -26,7 +26,7 @@ returns-in-Leaves c =
     let step : product_of c.args.dims.now ≡ and_then c.times.result (λ p. times_all p (drop (c.loop-i.i + 1) c.args.dims.now)) =
     c.loop-i.invariant.1 ∙ all_step c.args.dims.now c.loop-i.i (to_z w64 c.loop-i.all-bits) c.loop-i-test.true ∙ rw called
     in
-    sym (step ∙ simp c.in-Leaves.is)
+    sym (step ∙ simp c.in-None.is)
 
 pub loop-i-preserved : goal.loop-i-preserved
 loop-i-preserved c =
@@ -37,8 +37,8 @@ loop-i-preserved c =
     let step : product_of c.args.dims.now ≡ and_then c.times.result (λ p. times_all p (drop (c.loop-i.i + 1) c.args.dims.now)) =
     c.loop-i.invariant.1 ∙ all_step c.args.dims.now c.loop-i.i (to_z w64 c.loop-i.all-bits) c.loop-i-test.true ∙ rw called
     in
-    let g : SFits w64 c.in-Is.p = search rules in
-    (search rules, step ∙ simp (c.in-Is.is, to_z-of_z g))
+    let g : SFits w64 c.in-Some.p = search rules in
+    (search rules, step ∙ simp (c.in-Some.is, to_z-of_z g))
 
 pub returns : goal.returns
 returns c =

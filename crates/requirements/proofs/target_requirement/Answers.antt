@@ -4,7 +4,7 @@ use native.Mathlib.Omega.{arith}
 use Prim.Native.Nat.{ℕ}
 use mathlib.Core.Path.{◌≡◌, refl, sym, ap, ◌∙◌}
 use lib.ListN.{drop, get_or-map}
-use Rattle.requirements.specs.declared.Asked.TheVariants.{Feature}
+use Rattle.std.specs.Prelude.{Some}
 use Rattle.requirements.specs.Target.{targets, find_in, sm_of, feature_of, target_feature}
 use Rattle.requirements.proofs.Tables.{no_target, here, next}
 use Rattle.requirements.proofs.target_requirement.Goals as goal
@@ -22,7 +22,7 @@ returns-then-i-sm c =
     (c.loop-i.invariant.1
     ∙ here targets c.args.sm i c.loop-i-test.true
     (sym (get_or-map sm_of targets i no_target) ∙ c.if-i-sm.true)
-    ∙ ap Feature (sym (get_or-map feature_of targets i no_target)))
+    ∙ ap Some (sym (get_or-map feature_of targets i no_target)))
 
 pub loop-i-preserved : goal.loop-i-preserved
 unfolding targets

@@ -8,12 +8,12 @@ unfolding target_check
 returns-then-not-is_version c =
     rw (sym c.is_version.ensures ∙ c.if-not-is_version.true)
 
-pub returns-in-Feature : goal.returns-in-Feature
+pub returns-in-Some : goal.returns-in-Some
 unfolding target_check
-returns-in-Feature c =
-    rw (sym c.is_version.ensures ∙ c.if-not-is_version.false, sym c.target_requirement.ensures ∙ c.in-Feature.is)
+returns-in-Some c =
+    rw (sym c.is_version.ensures ∙ c.if-not-is_version.false, sym c.target_requirement.ensures ∙ c.in-Some.is)
 
-pub returns-in-Nothing : goal.returns-in-Nothing
+pub returns-in-None : goal.returns-in-None
 unfolding target_check
-returns-in-Nothing c =
-    rw (sym c.is_version.ensures ∙ c.if-not-is_version.false, sym c.target_requirement.ensures ∙ c.in-Nothing.is)
+returns-in-None c =
+    rw (sym c.is_version.ensures ∙ c.if-not-is_version.false, sym c.target_requirement.ensures ∙ c.in-None.is)

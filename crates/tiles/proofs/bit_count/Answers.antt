@@ -29,5 +29,5 @@ returns c =
     let few : SFits w64 (pos c.bits.result) = let a = c.args in
     let b = bits_few a.sheet.now a.t.kind in
     small_fits c.bits.result (omega (arith, b, c.bits.ensures)) in
-    let f : SFits w64 c.in-Is.n = search rules in
-    simp (to_z-of_z f, to_z-of_z few) at c.times.ensures ∙ sym (rw (← c.count.ensures, c.in-Is.is, ← c.bits.ensures))
+    let f : SFits w64 c.in-Some.n = search rules in
+    simp (to_z-of_z f, to_z-of_z few) at c.times.ensures ∙ sym (rw (← c.count.ensures, c.in-Some.is, ← c.bits.ensures))

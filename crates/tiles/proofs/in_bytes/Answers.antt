@@ -10,8 +10,8 @@ use Rattle.tiles.specs.Shape.{undivided_by}
 use Rattle.tiles.proofs.Equal.{by_eight}
 use Rattle.tiles.proofs.in_bytes.Goals as goal
 
-pub returns-in-Is : goal.returns-in-Is
-returns-in-Is c =
-    let f : SFits w64 c.in-Is.n = search rules in
-    let e : c.undivided.result ≡ undivided_by (pos 8) c.in-Is.n = simp (to_z-of_z f) at c.undivided.ensures in
-    ap not e ∙ by_eight c.in-Is.n ∙ sym (rw c.in-Is.is)
+pub returns-in-Some : goal.returns-in-Some
+returns-in-Some c =
+    let f : SFits w64 c.in-Some.n = search rules in
+    let e : c.undivided.result ≡ undivided_by (pos 8) c.in-Some.n = simp (to_z-of_z f) at c.undivided.ensures in
+    ap not e ∙ by_eight c.in-Some.n ∙ sym (rw c.in-Some.is)

@@ -6,8 +6,8 @@ use mir.Val.{SFits}
 use Rattle.tiles.proofs.Equal.{bits_test}
 use Rattle.tiles.proofs.same_product.Goals as goal
 
-pub returns-in-Is-q : goal.returns-in-Is-q
-returns-in-Is-q c =
-    let f : SFits w64 c.in-Is.x = search rules in
-    let g : SFits w64 c.in-Is-q.y = search rules in
-    bits_test f g ∙ sym (rw (c.in-Is.is, c.in-Is-q.is))
+pub returns-in-Some-q : goal.returns-in-Some-q
+returns-in-Some-q c =
+    let f : SFits w64 c.in-Some.x = search rules in
+    let g : SFits w64 c.in-Some-q.y = search rules in
+    bits_test f g ∙ sym (rw (c.in-Some.is, c.in-Some-q.is))
