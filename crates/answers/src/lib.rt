@@ -15,13 +15,13 @@ pub fn counts_of(n: &[u64]) -> Counts
     ensures { result ≡ counts_of n.now }
 {
     Counts {
-        types: cells::at_u64(n, 0),
-        values: cells::at_u64(n, 1),
-        operations: cells::at_u64(n, 2),
-        attributes: cells::at_u64(n, 3),
-        blocks: cells::at_u64(n, 4),
-        regions: cells::at_u64(n, 5),
-        functions: cells::at_u64(n, 6),
+        types: cells::at(n, 0),
+        values: cells::at(n, 1),
+        operations: cells::at(n, 2),
+        attributes: cells::at(n, 3),
+        blocks: cells::at(n, 4),
+        regions: cells::at(n, 5),
+        functions: cells::at(n, 6),
     }
 }
 
@@ -29,9 +29,9 @@ pub fn counts_of(n: &[u64]) -> Counts
 fn note(n: Numbers, out: &mut [u64])
     ensures { out.new ≡ noted n out.old }
 {
-    cells::put_u64(out, 0, n.code);
-    cells::put_u64(out, 1, n.id);
-    cells::put_u64(out, 2, n.detail);
+    cells::put(out, 0, n.code);
+    cells::put(out, 1, n.id);
+    cells::put(out, 2, n.detail);
 }
 
 // An answer's numbers, 0 0 0 where nothing is refused.
@@ -98,21 +98,21 @@ pub fn note_checked(said: Checked, out: &mut [u64])
 fn note_header(version: u64, sm: u64, out: &mut [u64])
     ensures { out.new ≡ header_noted version sm out.old }
 {
-    cells::put_u64(out, 0, version);
-    cells::put_u64(out, 1, sm);
+    cells::put(out, 0, version);
+    cells::put(out, 1, sm);
 }
 
 // The seven counts, in the tables' order.
 fn note_counts(n: Counts, out: &mut [u64])
     ensures { out.new ≡ counts_noted n out.old }
 {
-    cells::put_u64(out, 0, n.types);
-    cells::put_u64(out, 1, n.values);
-    cells::put_u64(out, 2, n.operations);
-    cells::put_u64(out, 3, n.attributes);
-    cells::put_u64(out, 4, n.blocks);
-    cells::put_u64(out, 5, n.regions);
-    cells::put_u64(out, 6, n.functions);
+    cells::put(out, 0, n.types);
+    cells::put(out, 1, n.values);
+    cells::put(out, 2, n.operations);
+    cells::put(out, 3, n.attributes);
+    cells::put(out, 4, n.blocks);
+    cells::put(out, 5, n.regions);
+    cells::put(out, 6, n.functions);
 }
 
 // What a reading says beside the tables.

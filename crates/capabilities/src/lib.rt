@@ -48,7 +48,7 @@ fn mark_kinds(g: Target, kinds: &mut [u64])
     let mut kind = 0;
     while kind < KINDS {
         let mark = known(g, kind);
-        cells::put_u64(kinds, kind, mark);
+        cells::put(kinds, kind, mark);
         kind += 1;
     }
 }
@@ -61,7 +61,7 @@ fn ask_kind(g: Target, t: &[u64], n: Counts, operation: u64, kinds: &[u64], id: 
         return Answer::Accepted;
     }
     let kind = tables::type_kind(t, n, id);
-    if cells::at_u64(kinds, kind) == 1 {
+    if cells::at(kinds, kind) == 1 {
         return Answer::Accepted;
     }
     ask(g, operation, requirements::scalar_requirement(kind))

@@ -6,8 +6,7 @@ use mathlib.Core.List.{List, [], ◌∷◌, ◌++◌, append_assoc, append-nil}
 use Prim.Native.Nat.{ℕ, zero, suc, ◌+◌, ◌-◌, ◌≤◌, ◌<◌}
 use native.Mathlib.Numerals.{add-one}
 use native.Mathlib.Omega.{arith}
-use borrow.Author.Fill.{fill_none, fill_more}
-use lib.ListN.{length, get_or, set, take, drop, replicate, length-set, length-take, length-drop, drop_of_length-le}
+use lib.ListN.{length, get_or, set, take, drop, replicate, length-replicate, length-set, length-take, length-drop, drop_of_length-le}
 use lib.Seq.{drop-cons, take-suc, take_all, take-length, drop-length, length-take-le, get_or-take, get_or-drop, set_at, take-set-le, drop-set-lt, drop-set-add}
 use Rattle.cells.specs.Cell.{entries_of, copied}
 use Rattle.cells.specs.Lists.{from}
@@ -53,24 +52,37 @@ module _ (l : List ℕ) (s : Span) where
   entries_before k x h = ap (take s.len) (drop-set-lt s.start l k x h)
 
 -- clearing from the front, i entries done
-abbrev pub Cleared : List ℕ → ℕ → List ℕ → Type 0
-Cleared old i s = (length s ≡ length old) × (i ≤ length old) × (s ≡ replicate i 0 ++ drop i old)
+abbrev pub Cleared : {A : Type 0} → A → List A → ℕ → List A → Type 0
+Cleared z old i s = (i ≤ length old) × (s ≡ replicate i z ++ drop i old)
 
-pub clear_start : (old : List ℕ) → Cleared old 0 old
-clear_start old = (refl, omega arith, fill_none old 0)
+-- one more of the same stands at the front as well as at the back
+replicate_shift : {A : Type 0} (i : ℕ) (z : A) (rest : List A) → replicate i z ++ (z ∷ rest) ≡ replicate (suc i) z ++ rest
+replicate_shift zero z rest = refl
+replicate_shift (suc i) z rest = ap (λ r. z ∷ r) (replicate_shift i z rest)
 
-module _ (old : List ℕ) (i : ℕ) (s : List ℕ) (inv : Cleared old i s) where
-  pub clear_step : i < length s → Cleared old (i + 1) (set s i 0)
-  clear_step h = (
-    simp length-set inv.0,
-    omega arith,
-    ap (λ (t : List ℕ). set t i 0) inv.2 ∙ fill_more i 0 old (omega arith),
-  )
+module _ {A : Type 0} (z : A) (old : List A) where
+  pub clear_start : Cleared z old 0 old
+  clear_start = (omega arith, refl)
 
-  pub clear_end : length s ≤ i → s ≡ replicate (length old) 0
-  clear_end h =
+  cleared_more : (i : ℕ) → i < length old → set (replicate i z ++ drop i old) i z ≡ replicate (i + 1) z ++ drop (i + 1) old
+  cleared_more i h =
+      ap (λ (r : List A). set (replicate i z ++ r) i z) (left_step old i z h)
+      ∙ set_at (replicate i z) (get_or old i z) (drop (i + 1) old) z i (length-replicate i z)
+      ∙ rw add-one (replicate_shift i z (drop (suc i) old))
+
+  pub clear_step : (i : ℕ) (s : List A) → Cleared z old i s → i < length old → Cleared z old (i + 1) (set s i z)
+  clear_step i s inv h = (omega arith, ap (λ (t : List A). set t i z) inv.1 ∙ cleared_more i h)
+
+  pub clear_end : (i : ℕ) (s : List A) → Cleared z old i s → length old ≤ i → s ≡ replicate (length old) z
+  clear_end i s inv h =
       let e : i ≡ length old = omega arith in
-      inv.2 ∙ rw (e, drop-length old, append-nil)
+      inv.1 ∙ rw (e, drop-length old, append-nil)
+
+-- within a list the default does not count
+pub get_or_within : {A : Type 0} (xs : List A) (i : ℕ) (d e : A) → i < length xs → get_or xs i d ≡ get_or xs i e
+get_or_within [] i d e h = elim h [ ]
+get_or_within (x ∷ xs) zero d e h = refl
+get_or_within (x ∷ xs) (suc i) d e h = get_or_within xs i d e (omega arith)
 
 -- copying from the front, i entries done
 abbrev pub Copied : List ℕ → List ℕ → ℕ → List ℕ → Type 0

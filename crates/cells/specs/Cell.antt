@@ -24,5 +24,5 @@ abbrev pub part_at : ℕ → List ℕ → ℕ → ℕ → ℕ → List ℕ
 part_at w xs i j n = take n (drop (i * w + j) xs)
 
 -- as many entries as both have, from the front; the rest of the target stays
-abbrev pub copied : List ℕ → List ℕ → List ℕ
+abbrev pub copied : {A : Type 0} → List A → List A → List A
 copied from to = take (length to) from ++ drop (length from) to

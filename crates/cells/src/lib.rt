@@ -2,7 +2,50 @@
 #![tactic(auto)]
 
 ghost use Rattle.std.specs.Prelude.{◌≡◌, ◌+◌, ◌-◌, ◌*◌, ◌/◌, ◌%◌, ◌^◌, min, ◌&&◌, ltb, leb, length, get_or, set, replicate};
-ghost use Rattle.cells.specs.Cell.{cell, put_cell, span_at, entries_of, part_at, copied};
+ghost use Rattle.cells.specs.Cell.{span_at, entries_of, part_at, copied};
+
+// A number that a lent table holds: 32 bits or 64.
+pub trait Word: Copy {
+    ghost use Rattle.std.specs.Prelude.{ℕ};
+
+    ghost number: { Self → ℕ };
+
+    ghost zero: { Self };
+
+    fn widen(self) -> u64
+        ensures { result ≡ number self };
+
+    fn zero() -> Self
+        ensures { result ≡ zero };
+}
+
+impl Word for u32 {
+    ghost number = { λ x. x };
+
+    ghost zero = { 0 };
+
+    fn widen(self) -> u64 {
+        u64::from(self)
+    }
+
+    fn zero() -> Self {
+        0
+    }
+}
+
+impl Word for u64 {
+    ghost number = { λ x. x };
+
+    ghost zero = { 0 };
+
+    fn widen(self) -> u64 {
+        self
+    }
+
+    fn zero() -> Self {
+        0
+    }
+}
 
 // Where a list's entries stand.
 #[derive(Clone, Copy)]
@@ -12,31 +55,17 @@ pub struct Span {
 }
 
 // The entry at i.
-pub fn at_u32(s: &[u32], i: u64) -> u64
-    ensures { result ≡ get_or s.now i 0 }
+pub fn at<T: Word>(s: &[T], i: u64) -> u64
+    ensures { result ≡ T.number (get_or s.now i T.zero) }
 {
-    let k = i as usize;
-    if k < s.len() { s[k] as u64 } else { 0 }
-}
-
-pub fn at_u64(s: &[u64], i: u64) -> u64
-    ensures { result ≡ get_or s.now i 0 }
-{
-    let k = i as usize;
-    if k < s.len() { s[k] } else { 0 }
-}
-
-// x at i.
-pub fn put_u32(s: &mut [u32], i: u64, x: u32)
-    ensures { s.new ≡ set s.old i x }
-{
-    let k = i as usize;
-    if k < s.len() {
-        s[k] = x;
+    match s.get(i as usize) {
+        Some(x) => x.widen(),
+        None => T::zero().widen(),
     }
 }
 
-pub fn put_u64(s: &mut [u64], i: u64, x: u64)
+// x at i.
+pub fn put<T: Copy>(s: &mut [T], i: u64, x: T)
     ensures { s.new ≡ set s.old i x }
 {
     let k = i as usize;
@@ -71,7 +100,7 @@ pub fn place(len: u64, width: u64, row: u64, column: u64) -> u64
     ensures { result ≡ min (row * width + column) len }
 {
     if width == 0 {
-        return least(column, len);
+        return column.min(len);
     }
     if len / width < row {
         return len;
@@ -94,41 +123,22 @@ fn is_whole(len: u64, width: u64, row: u64, column: u64, count: u64) -> bool
 }
 
 // The cell of a row and a column, in rows of width cells. A whole row is the common case, asked first.
-pub fn cell_u32(s: &[u32], width: u64, row: u64, column: u64) -> u64
-    ensures { result ≡ cell width s.now row column }
+pub fn cell<T: Word>(s: &[T], width: u64, row: u64, column: u64) -> u64
+    ensures { result ≡ T.number (get_or s.now (row * width + column) T.zero) }
 {
     let n = s.len() as u64;
     if is_whole(n, width, row, column, 1) {
-        let k = (row * width + column) as usize;
-        return s[k] as u64;
+        return s[(row * width + column) as usize].widen();
     }
-    at_u32(s, place(n, width, row, column))
-}
-
-pub fn cell_u64(s: &[u64], width: u64, row: u64, column: u64) -> u64
-    ensures { result ≡ cell width s.now row column }
-{
-    let n = s.len() as u64;
-    if is_whole(n, width, row, column, 1) {
-        let k = (row * width + column) as usize;
-        return s[k];
-    }
-    at_u64(s, place(n, width, row, column))
+    at(s, place(n, width, row, column))
 }
 
 // x at the cell of a row and a column.
-pub fn put_cell_u32(s: &mut [u32], width: u64, row: u64, column: u64, x: u32)
-    ensures { s.new ≡ put_cell width s.old row column x }
+pub fn put_cell<T: Copy>(s: &mut [T], width: u64, row: u64, column: u64, x: T)
+    ensures { s.new ≡ set s.old (row * width + column) x }
 {
     let k = place(s.len() as u64, width, row, column);
-    put_u32(s, k, x);
-}
-
-pub fn put_cell_u64(s: &mut [u64], width: u64, row: u64, column: u64, x: u64)
-    ensures { s.new ≡ put_cell width s.old row column x }
-{
-    let k = place(s.len() as u64, width, row, column);
-    put_u64(s, k, x);
+    put(s, k, x);
 }
 
 // The span of a list: its start in the column, its length in the next.
@@ -147,8 +157,8 @@ pub fn span_at(s: &[u32], width: u64, row: u64, column: u64) -> Span
     if n <= k {
         return Span { start: 0, len: 0 };
     }
-    let start = at_u32(s, k);
-    let len = at_u32(s, k + 1);
+    let start = at(s, k);
+    let len = at(s, k + 1);
     Span { start, len }
 }
 
@@ -184,33 +194,18 @@ pub fn part_at(s: &[u64], width: u64, row: u64, column: u64, len: u64) -> &[u64]
 }
 
 // All zero.
-pub fn clear_u32(s: &mut [u32])
-    ensures { s.new ≡ replicate (length s.old) 0 }
+pub fn clear<T: Word>(s: &mut [T])
+    ensures { s.new ≡ replicate (length s.old) T.zero }
 {
-    let mut i = 0;
-    while i < s.len() {
-        s[i] = 0;
-        i += 1;
-    }
-}
-
-pub fn clear_u64(s: &mut [u64])
-    ensures { s.new ≡ replicate (length s.old) 0 }
-{
-    let mut i = 0;
-    while i < s.len() {
-        s[i] = 0;
-        i += 1;
+    for x in s {
+        *x = T::zero();
     }
 }
 
 // As many entries as both have, from the front; the rest of the target stays.
-pub fn copy_u64(from: &[u64], to: &mut [u64])
+pub fn copy<T: Copy>(from: &[T], to: &mut [T])
     ensures { to.new ≡ copied from.now to.old }
 {
-    let mut i = 0;
-    while i < from.len() && i < to.len() {
-        to[i] = from[i];
-        i += 1;
-    }
+    let n = from.len().min(to.len());
+    to[..n].copy_from_slice(&from[..n]);
 }

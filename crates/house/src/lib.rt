@@ -355,14 +355,14 @@ pub fn settle(
     match answer {
         Answer::Accepted => s,
         Answer::Refused(refusal) => {
-            cells::clear_u64(t);
-            cells::clear_u64(v);
-            cells::clear_u32(o);
-            cells::clear_u32(a);
-            cells::clear_u32(b);
-            cells::clear_u32(r);
-            cells::clear_u32(f);
-            cells::clear_u64(l);
+            cells::clear(t);
+            cells::clear(v);
+            cells::clear(o);
+            cells::clear(a);
+            cells::clear(b);
+            cells::clear(r);
+            cells::clear(f);
+            cells::clear(l);
             refusing(refusal)
         }
     }

@@ -163,7 +163,7 @@ pub fn list_into(field: &[u8], width: Width, at: u64, l: &mut [u64]) -> Listed
         let Taken::Number(x, next) = a else {
             return Listed::Bad;
         };
-        cells::put_u64(l, start + n, x);
+        cells::put(l, start + n, x);
         n += 1;
         if (field.len() as u64) < next {
             return Listed::Count(n);
@@ -424,7 +424,7 @@ fn single_into(field: &[u8], width: Width, at: u64, l: &mut [u64]) -> Filled
     let Number::Is(n) = a else {
         return Filled::Bad;
     };
-    cells::put_u64(l, at, n);
+    cells::put(l, at, n);
     Filled::Held {
         count: 1,
         missing: 0,
@@ -461,9 +461,9 @@ fn divisor_into(field: &[u8], at: u64, l: &mut [u64]) -> Filled
         return Filled::Bad;
     }
     let start = cells::least(at, l.len() as u64);
-    cells::put_u64(l, start, divisor);
-    cells::put_u64(l, start + 1, every.value);
-    cells::put_u64(l, start + 2, along.value);
+    cells::put(l, start, divisor);
+    cells::put(l, start + 1, every.value);
+    cells::put(l, start + 2, along.value);
     Filled::Held {
         count: 3,
         missing: every.missing + along.missing,
@@ -486,8 +486,8 @@ fn endpoints_into(field: &[u8], at: u64, l: &mut [u64]) -> Filled
         return Filled::Bad;
     }
     let start = cells::least(at, l.len() as u64);
-    cells::put_u64(l, start, low.value);
-    cells::put_u64(l, start + 1, high.value);
+    cells::put(l, start, low.value);
+    cells::put(l, start + 1, high.value);
     Filled::Held {
         count: 2,
         missing: low.missing + high.missing,

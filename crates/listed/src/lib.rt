@@ -21,8 +21,8 @@ fn once_more(m: u64) -> u64
 fn add_mark(marks: &mut [u64], x: u64)
     ensures { marks.new ≡ mark marks.old x }
 {
-    let m = once_more(cells::at_u64(marks, x));
-    cells::put_u64(marks, x, m);
+    let m = once_more(cells::at(marks, x));
+    cells::put(marks, x, m);
 }
 
 // One more of each entry of a list.
@@ -87,7 +87,7 @@ fn lowest_marked(marks: &[u64], n: u64, list: u64) -> Answer
 {
     let mut id = 0;
     while id < n {
-        if 1 < cells::at_u64(marks, id) {
+        if 1 < cells::at(marks, id) {
             return Answer::Refused(Refusal::ListedTwice { id, list });
         }
         id += 1;

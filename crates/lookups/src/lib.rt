@@ -76,7 +76,7 @@ fn first_number(a: &[u32], l: &[u64], n: Counts, attribute: u64) -> u64
     if span.len == 0 {
         return 0;
     }
-    cells::at_u64(l, span.start)
+    cells::at(l, span.start)
 }
 
 // The attribute has this name and is as wanted.
@@ -184,7 +184,7 @@ pub fn segment(o: &[u32], a: &[u32], l: &[u64], n: Counts, operation: u64, posit
             if sizes.len() as u64 <= position {
                 return Found::Absent;
             }
-            Found::Number(cells::at_u64(sizes, position))
+            Found::Number(cells::at(sizes, position))
         }
         SegmentSizes::Bools(_) => Found::Absent,
         SegmentSizes::Missing => Found::Absent,
@@ -217,7 +217,7 @@ pub fn operand_type(v: &[u64], o: &[u32], l: &[u64], n: Counts, operation: u64, 
     if operands.len() as u64 <= k {
         return Typed::Untyped;
     }
-    Typed::By(tables::value_type(v, n, cells::at_u64(operands, k)))
+    Typed::By(tables::value_type(v, n, cells::at(operands, k)))
 }
 
 // The type of an operation's first result.
@@ -228,7 +228,7 @@ pub fn result_type(o: &[u32], l: &[u64], n: Counts, operation: u64) -> Typed
     if types.len() == 0 {
         return Typed::Untyped;
     }
-    Typed::By(cells::at_u64(types, 0))
+    Typed::By(cells::at(types, 0))
 }
 
 // The cells of a type that is a tile; none where there is no type. An arm that asks no dims takes the tile of these by itself: it is then not

@@ -97,7 +97,7 @@ fn count_list(functions: u64, count: u64, n: u64, lengths: &mut [u64]) -> Lists
     if tables::MAX_ENTRIES - count < n {
         return Lists::Refused(Refusal::OutOfRange { table: 0, entry: 0 });
     }
-    cells::put_u64(lengths, functions, n);
+    cells::put(lengths, functions, n);
     Lists::Read {
         count: count + n,
         functions: functions + 1,
@@ -217,8 +217,8 @@ fn settle(answer: Lists, numbers: &mut [u64], lengths: &mut [u64]) -> Lists
     match answer {
         Lists::Read { count, functions } => Lists::Read { count, functions },
         Lists::Refused(refusal) => {
-            cells::clear_u64(numbers);
-            cells::clear_u64(lengths);
+            cells::clear(numbers);
+            cells::clear(lengths);
             Lists::Refused(refusal)
         }
     }

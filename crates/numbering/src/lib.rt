@@ -56,7 +56,7 @@ fn visit_functions(
                 scope: _,
                 done: used,
             } => {
-                cells::put_u64(lengths, i, cells::rest(used, done));
+                cells::put(lengths, i, cells::rest(used, done));
                 done = used;
             }
             Walked::Refused(why) => {
@@ -160,8 +160,8 @@ pub fn after_checks(
     match visit_all(o, b, r, f, l, n, sheet, bases, claims, numbers, lengths) {
         Numbered::Written { count } => Numbered::Written { count },
         Numbered::Refused(why) => {
-            cells::clear_u64(numbers);
-            cells::clear_u64(lengths);
+            cells::clear(numbers);
+            cells::clear(lengths);
             Numbered::Refused(why)
         }
     }
@@ -184,7 +184,7 @@ pub fn hand_over(
     if (lengths.len() as u64) < functions {
         return Numbered::Refused(Refusal::TooShort { needed: functions });
     }
-    cells::copy_u64(
+    cells::copy(
         cells::entries(
             all,
             Span {
@@ -194,7 +194,7 @@ pub fn hand_over(
         ),
         numbers,
     );
-    cells::copy_u64(
+    cells::copy(
         cells::entries(
             each,
             Span {

@@ -26,7 +26,7 @@ fn push_number(numbers: &mut [u64], done: u64, number: u64) -> u64
     ensures { filled numbers.new result ≡ push (filled numbers.old done) number }
 {
     if done < numbers.len() as u64 {
-        cells::put_u64(numbers, done, number);
+        cells::put(numbers, done, number);
         return done + 1;
     }
     done

@@ -36,9 +36,9 @@ fn push_place(stack: &mut [u64], next: u64, kind: u64, id: u64, index: u64) -> u
     ensures { (p : Place) → Is p kind id index → (live : List Place) → Shows stack.old next live → Shows stack.new result (grow live p) }
 {
     if next < tables::MAX_ENTRIES {
-        cells::put_cell_u64(stack, PLACE_CELLS, next, 0, kind);
-        cells::put_cell_u64(stack, PLACE_CELLS, next, 1, id);
-        cells::put_cell_u64(stack, PLACE_CELLS, next, 2, index);
+        cells::put_cell(stack, PLACE_CELLS, next, 0, kind);
+        cells::put_cell(stack, PLACE_CELLS, next, 1, id);
+        cells::put_cell(stack, PLACE_CELLS, next, 2, index);
         return next + 1;
     }
     next
@@ -61,12 +61,12 @@ fn push_places(stack: &mut [u64], next: u64, kind: u64, id: u64, count: u64) -> 
 fn copy_place(stack: &[u64], number: u64, places: &mut [u64], k: u64)
     ensures { places.new ≡ copied_row stack.now number places.old k }
 {
-    let kind = cells::cell_u64(stack, PLACE_CELLS, number, 0);
-    let id = cells::cell_u64(stack, PLACE_CELLS, number, 1);
-    let index = cells::cell_u64(stack, PLACE_CELLS, number, 2);
-    cells::put_cell_u64(places, PLACE_CELLS, k, 0, kind);
-    cells::put_cell_u64(places, PLACE_CELLS, k, 1, id);
-    cells::put_cell_u64(places, PLACE_CELLS, k, 2, index);
+    let kind = cells::cell(stack, PLACE_CELLS, number, 0);
+    let id = cells::cell(stack, PLACE_CELLS, number, 1);
+    let index = cells::cell(stack, PLACE_CELLS, number, 2);
+    cells::put_cell(places, PLACE_CELLS, k, 0, kind);
+    cells::put_cell(places, PLACE_CELLS, k, 1, id);
+    cells::put_cell(places, PLACE_CELLS, k, 2, index);
 }
 
 // The first refusal stays.
@@ -103,7 +103,7 @@ fn read_next(
             }),
         };
     }
-    let number = cells::at_u64(numbers, at);
+    let number = cells::at(numbers, at);
     if next <= number {
         return Reading {
             next,

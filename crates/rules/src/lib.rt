@@ -101,7 +101,7 @@ fn operation_at(order: &[u64], straight: bool, k: u64) -> u64
     ensures { result ≡ get_or (cond straight (below (length order.now)) order.now) k 0 }
 {
     if !straight {
-        return cells::at_u64(order, k);
+        return cells::at(order, k);
     }
     if k < order.len() as u64 {
         return k;

@@ -32,7 +32,7 @@ fn number_at(a: &[u32], l: &[u64], n: Counts, attribute: u64, j: u64) -> Found
     if has_bit(tables::attribute_absent(a, n, attribute), j) {
         return Found::Absent;
     }
-    Found::Number(cells::at_u64(tables::attribute_numbers(a, l, n, attribute), j))
+    Found::Number(cells::at(tables::attribute_numbers(a, l, n, attribute), j))
 }
 
 fn is_absent(found: Found) -> bool
@@ -169,7 +169,7 @@ fn attribute_rule(
     let form = tables::attribute_form(a, n, attribute);
     let numbers = tables::attribute_numbers(a, l, n, attribute);
     if form == names::DIVISOR {
-        let divisor = cells::at_u64(numbers, 0);
+        let divisor = cells::at(numbers, 0);
         let every = number_at(a, l, n, attribute, 1);
         let along = number_at(a, l, n, attribute, 2);
         return div_by_rule(value, view, divisor, every, along);

@@ -135,7 +135,7 @@ fn indices_differ(
     }
     let mut k = offset;
     while k < count {
-        if !is_index_value(t, v, sheet, n, cells::at_u64(operands, k)) {
+        if !is_index_value(t, v, sheet, n, cells::at(operands, k)) {
             return true;
         }
         k += 1;

@@ -185,7 +185,7 @@ fn is_token(t: &[u64], n: Counts, id: u64) -> bool
 fn is_one_token(t: &[u64], n: Counts, types: &[u64]) -> bool
     ensures { result ≡ is_one_token t.now n types.now }
 {
-    (types.len() == 1) & is_token(t, n, cells::at_u64(types, 0))
+    (types.len() == 1) & is_token(t, n, cells::at(types, 0))
 }
 
 // The results are one token, and the operands none or one; the fence takes one. Of two operands it is not asked what they are.
@@ -200,7 +200,7 @@ fn is_signature(
     ensures { result ≡ is_signature t.now v.now n opcode types.now operands.now }
 {
     let count = operands.len() as u64;
-    let first = tables::value_type(v, n, cells::at_u64(operands, 0));
+    let first = tables::value_type(v, n, cells::at(operands, 0));
     let typed = (0 < count) & !is_token(t, n, first);
     let fence = opcode == MEMORY_FENCE_ALIAS_TKO;
     !(!is_one_token(t, n, types) | typed | (1 < count) | (fence & (count != 1)))

@@ -23,11 +23,11 @@ pub enum Found {
 pub fn position(dense: &[u64], sparse: &[u64], next: u64, v: u64) -> Found
     ensures { (nv : ℕ) (live : List ℕ) → Shows nv dense.now sparse.now next live → number_in result ≡ position_from 0 v live }
 {
-    let k = cells::at_u64(sparse, v);
+    let k = cells::at(sparse, v);
     if next <= k {
         return Found::Nowhere;
     }
-    if cells::at_u64(dense, k) != v {
+    if cells::at(dense, k) != v {
         return Found::Nowhere;
     }
     Found::At(k)
@@ -75,8 +75,8 @@ impl Scope {
         if is_live(dense, sparse, next, v) {
             return self;
         }
-        cells::put_u64(dense, next, v);
-        cells::put_u64(sparse, v, next);
+        cells::put(dense, next, v);
+        cells::put(sparse, v, next);
         self.next = next + 1;
         self
     }

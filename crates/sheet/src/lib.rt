@@ -195,20 +195,20 @@ fn store(kind: u64, key: u64, value: u64, sheet: &mut [u64])
 {
     match kind {
         2 => {
-            cells::put_cell_u64(sheet, 2, key, 0, 1);
-            cells::put_cell_u64(sheet, 2, key, 1, value);
+            cells::put_cell(sheet, 2, key, 0, 1);
+            cells::put_cell(sheet, 2, key, 1, value);
         }
         3 => {
-            cells::put_cell_u64(sheet, 1, key, 256, value);
+            cells::put_cell(sheet, 1, key, 256, value);
         }
         4 => {
-            cells::put_cell_u64(sheet, 1, key, 272, value);
+            cells::put_cell(sheet, 1, key, 272, value);
         }
         5 => {
-            cells::put_cell_u64(sheet, 1, key, 288, value);
+            cells::put_cell(sheet, 1, key, 288, value);
         }
         6 => {
-            cells::put_u64(sheet, 304, value);
+            cells::put(sheet, 304, value);
         }
         _ => {}
     }
@@ -294,7 +294,7 @@ fn settle(answer: Answer, sheet: &mut [u64]) -> Answer
     match answer {
         Answer::Accepted => Answer::Accepted,
         Answer::Refused(refusal) => {
-            cells::clear_u64(sheet);
+            cells::clear(sheet);
             Answer::Refused(refusal)
         }
     }
@@ -305,13 +305,13 @@ pub fn read_sheet(text: &[u8], sheet: &mut [u64]) -> Answer
     ensures { left result sheet.new ≡ read_sheet text.now sheet.old }
 {
     if (sheet.len() as u64) < tables::SHEET_CELLS {
-        cells::clear_u64(sheet);
+        cells::clear(sheet);
         return Answer::Refused(Refusal::TooShort {
             needed: tables::SHEET_CELLS,
         });
     }
     let blank = [0u64; 320];
-    cells::copy_u64(&blank, sheet);
+    cells::copy(&blank, sheet);
     let answer = read_lines(text, sheet);
     settle(answer, sheet)
 }

@@ -26,7 +26,7 @@ fn store_u64(table: &mut [u64], at: u64, row: &[u64])
     let start = cells::least(at, table.len() as u64);
     let mut i: usize = 0;
     while i < row.len() {
-        cells::put_u64(table, start + i as u64, row[i]);
+        cells::put(table, start + i as u64, row[i]);
         i += 1;
     }
 }
@@ -37,7 +37,7 @@ fn store_u32(table: &mut [u32], at: u64, row: &[u32])
     let start = cells::least(at, table.len() as u64);
     let mut i: usize = 0;
     while i < row.len() {
-        cells::put_u32(table, start + i as u64, row[i]);
+        cells::put(table, start + i as u64, row[i]);
         i += 1;
     }
 }
@@ -95,7 +95,7 @@ pub fn store_function(line: &[u8], at: u64, n: u64, f: &mut [u32]) -> Step
             if tables::MAX_FUNCTIONS <= n {
                 return Step::Full;
             }
-            cells::put_u32(f, n, narrow(operation));
+            cells::put(f, n, narrow(operation));
             Step::Taken(at)
         }
     }
@@ -253,6 +253,6 @@ pub fn store_region(line: &[u8], at: u64, n: u64, r: &mut [u32], l: &mut [u64]) 
 pub fn count_attribute(o: &mut [u32], operation: u64)
     ensures { o.new ≡ one_attribute_more o.old (operation * 16 + 8) }
 {
-    let count = cells::cell_u32(o, tables::OPERATION_CELLS, operation, 8);
-    cells::put_cell_u32(o, tables::OPERATION_CELLS, operation, 8, narrow(count + 1));
+    let count = cells::cell(o, tables::OPERATION_CELLS, operation, 8);
+    cells::put_cell(o, tables::OPERATION_CELLS, operation, 8, narrow(count + 1));
 }

@@ -46,7 +46,7 @@ pub fn check_target(g: Target) -> Answer
 fn refuse(why: Refusal, list: &mut [u64]) -> Checked
     ensures { (result ≡ Checked.Refused why) × (list.new ≡ replicate (length list.old) 0) }
 {
-    cells::clear_u64(list);
+    cells::clear(list);
     Checked::Refused(why)
 }
 

@@ -234,7 +234,7 @@ fn counted_u32(s: &[u32], count: u64, width: u64, row: u64, column: u64) -> u64
     ensures { result ≡ counted_cell count width s.now row column }
 {
     if row < count {
-        cells::cell_u32(s, width, row, column)
+        cells::cell(s, width, row, column)
     } else {
         0
     }
@@ -244,7 +244,7 @@ fn counted_u64(s: &[u64], count: u64, width: u64, row: u64, column: u64) -> u64
     ensures { result ≡ counted_cell count width s.now row column }
 {
     if row < count {
-        cells::cell_u64(s, width, row, column)
+        cells::cell(s, width, row, column)
     } else {
         0
     }
@@ -516,7 +516,7 @@ pub fn byte_width(sheet: &[u64], kind: u64) -> u64
 pub fn tile_flag(sheet: &[u64]) -> u64
     ensures { result ≡ tile_flag_in sheet.now }
 {
-    cells::at_u64(sheet, 304)
+    cells::at(sheet, 304)
 }
 
 pub fn tile_through(sheet: &[u64]) -> bool

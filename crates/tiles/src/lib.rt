@@ -74,7 +74,7 @@ fn eight(bits: &[u64]) -> [i64; 8]
     let mut dims = [0i64; 8];
     let mut i: usize = 0;
     while i < 8 {
-        let d = arith::signed(cells::at_u64(bits, i as u64));
+        let d = arith::signed(cells::at(bits, i as u64));
         dims[i] = d;
         i += 1;
     }
@@ -102,8 +102,8 @@ fn dims_of(row: &[u64]) -> [i64; 8]
 fn cut_tile(form: u64, row: &[u64]) -> Tile
     ensures { result ≡ row_tile form row.now }
 {
-    let kind = cells::at_u64(row, 1);
-    let wanted = cells::least(cells::at_u64(row, 5), tables::MAX_RANK);
+    let kind = cells::at(row, 1);
+    let wanted = cells::least(cells::at(row, 5), tables::MAX_RANK);
     let rank = cells::least(wanted, cells::rest(row.len() as u64, 8));
     let dims = dims_of(row);
     Tile {
@@ -147,8 +147,8 @@ pub fn seen_row<'a>(t: &'a [u64], sheet: &[u64], n: Counts, id: u64) -> &'a [u64
     ensures { result.now ≡ seen_in t.now sheet.now n id }
 {
     let row = type_row(t, n, id);
-    let form = cells::at_u64(row, 0);
-    let seen = (cells::at_u64(row, 2) == 0) | tables::tile_through(sheet);
+    let form = cells::at(row, 0);
+    let seen = (cells::at(row, 2) == 0) | tables::tile_through(sheet);
     if ((form == 1) | (form == 2)) & seen {
         return row;
     }
@@ -159,7 +159,7 @@ pub fn seen_row<'a>(t: &'a [u64], sheet: &[u64], n: Counts, id: u64) -> &'a [u64
 pub fn tile_of(row: &[u64]) -> Tile
     ensures { result ≡ tile_row row.now }
 {
-    row_tile(cells::at_u64(row, 0), row)
+    row_tile(cells::at(row, 0), row)
 }
 
 // The tile that a view takes and gives.
@@ -167,7 +167,7 @@ pub fn view_tile(t: &[u64], n: Counts, id: u64) -> Tile
     ensures { result ≡ view_in t.now n id }
 {
     let row = type_row(t, n, id);
-    let form = cells::at_u64(row, 0);
+    let form = cells::at(row, 0);
     if (4 <= form) & (form <= 6) {
         return row_tile(1, row);
     }
@@ -576,7 +576,7 @@ fn some_outside(sizes: &[u64], t: Tile) -> bool
     let n = cells::least(sizes.len() as u64, rank(t));
     let mut i: u64 = 0;
     while i < n {
-        if outside(arith::signed(cells::at_u64(sizes, i)), dim(t, i)) {
+        if outside(arith::signed(cells::at(sizes, i)), dim(t, i)) {
             return true;
         }
         i += 1;

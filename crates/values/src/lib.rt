@@ -42,7 +42,7 @@ fn fill_bases(o: &[u32], l: &[u64], n: Counts, bases: &mut [u64]) -> u64
     let mut sum = 0;
     let mut i = 0;
     while i < n.operations {
-        cells::put_u64(bases, i, sum);
+        cells::put(bases, i, sum);
         sum = cut_sum(sum, result_count(o, l, n, i));
         i += 1;
     }
@@ -65,8 +65,8 @@ fn put_claim(
         return;
     };
     if index < result_count(o, l, n, operation) {
-        let base = cells::at_u64(bases, operation);
-        cells::put_cell_u64(claims, 1, base, index, number);
+        let base = cells::at(bases, operation);
+        cells::put_cell(claims, 1, base, index, number);
     }
 }
 
@@ -86,7 +86,7 @@ fn fill_claims(o: &[u32], l: &[u64], v: &[u64], n: Counts, bases: &[u64], claims
 pub fn number_at(bases: &[u64], claims: &[u64], operation: u64, index: u64) -> u64
     ensures { result ≡ get_or claims.now (get_or bases.now operation 0 + index) 0 }
 {
-    cells::cell_u64(claims, 1, cells::at_u64(bases, operation), index)
+    cells::cell(claims, 1, cells::at(bases, operation), index)
 }
 
 // One more of each argument of each block.
@@ -142,7 +142,7 @@ fn lowest_seen(
 {
     let mut value = 0;
     while value < n.values {
-        let times = cells::at_u64(marks, value);
+        let times = cells::at(marks, value);
         let claim = tables::claim_of(v, n, value);
         if seen_twice(o, l, n, bases, claims, times, value + 1, claim) {
             return Answer::Refused(Refusal::DefinedTwice { value });

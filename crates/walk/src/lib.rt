@@ -21,7 +21,7 @@ fn push_id(out: &mut [u64], used: u64, id: u64) -> u64
     ensures { filled out.new result ≡ push (filled out.old used) id }
 {
     if used < out.len() as u64 {
-        cells::put_u64(out, used, id);
+        cells::put(out, used, id);
         return used + 1;
     }
     used
@@ -182,7 +182,7 @@ pub fn walk_order(
     match visit_functions(o, b, r, f, l, n, out) {
         Walked::Fine(m) => Walked::Fine(m),
         Walked::Deep(i) => {
-            cells::clear_u64(out);
+            cells::clear(out);
             Walked::Deep(i)
         }
     }

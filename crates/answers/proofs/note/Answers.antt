@@ -5,4 +5,4 @@ use Rattle.answers.proofs.note.Goals as goal
 pub returns : goal.returns
 unfolding noted
 returns c =
-    rw (c.put_u64-3.ensures, c.put_u64-2.ensures, c.put_u64.ensures)
+    rw (c.put-3.ensures, c.put-2.ensures, c.put.ensures)

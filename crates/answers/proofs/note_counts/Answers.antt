@@ -6,11 +6,11 @@ pub returns : goal.returns
 unfolding counts_noted
 returns c =
     rw (
-      c.put_u64-7.ensures,
-      c.put_u64-6.ensures,
-      c.put_u64-5.ensures,
-      c.put_u64-4.ensures,
-      c.put_u64-3.ensures,
-      c.put_u64-2.ensures,
-      c.put_u64.ensures,
+      c.put-7.ensures,
+      c.put-6.ensures,
+      c.put-5.ensures,
+      c.put-4.ensures,
+      c.put-3.ensures,
+      c.put-2.ensures,
+      c.put.ensures,
     )

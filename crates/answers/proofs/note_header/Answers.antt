@@ -6,6 +6,6 @@ pub returns : goal.returns
 unfolding header_noted
 returns c =
     rw (
-      c.put_u64-2.ensures,
-      c.put_u64.ensures,
+      c.put-2.ensures,
+      c.put.ensures,
     )

@@ -12,15 +12,15 @@ unfolding ask kind_asked
 returns-then-type_form-eq0 c know =
     rw (← c.type_form.ensures, eq-eqb _ _ c.if-type_form-eq0.true)
 
-pub returns-then-at_u64-eq1 : goal.returns-then-at_u64-eq1
-returns-then-at_u64-eq1 c know =
+pub returns-then-at-eq1 : goal.returns-then-at-eq1
+returns-then-at-eq1 c know =
     let e = c.args in
     let x = tables_of_types e.t.now e.n in
     let kind = c.type_kind-kind in
     let form = c.type_form in
     sym
     (ap (ask e.g e.operation) (kinded x e.id form.result kind.result form.ensures (λ z. omega arith) kind.ensures)
-    ∙ know kind.result e.operation (sym c.at_u64.ensures ∙ c.if-at_u64-eq1.true))
+    ∙ know kind.result e.operation (sym c.at.ensures ∙ c.if-at-eq1.true))
 
 pub returns : goal.returns
 returns c know =

@@ -8,7 +8,7 @@ pub loop-kind-preserved : goal.loop-kind-preserved
 loop-kind-preserved c =
     let p = c.loop-kind in
     let g = c.args.g in
-    let put = c.put_u64 in
+    let put = c.put in
     let mark = c.known-mark in (
       put.auto.s ∙ p.invariant.0,
       λ h. subst (Knows g) (sym put.ensures) (marked g p.kinds p.kind mark.result mark.ensures (p.invariant.1 h)),

@@ -12,4 +12,4 @@ returns-in-Accepted c =
 pub returns-in-Refused : goal.returns-in-Refused
 returns-in-Refused c =
     let p = c.args in
-    settle_refused p.s (lent p.t.now p.v.now p.o.now p.a.now p.b.now p.r.now p.f.now p.l.now no_counts) _ _ c.in-Refused.is c.refusing.ensures _ _ _ _ _ _ _ _ c.clear_u64.ensures c.clear_u64-in-Refused.ensures c.clear_u32.ensures c.clear_u32-in-Refused.ensures c.clear_u32-in-Refused-2.ensures c.clear_u32-in-Refused-3.ensures c.clear_u32-in-Refused-4.ensures c.clear_u64-in-Refused-2.ensures
+    settle_refused p.s (lent p.t.now p.v.now p.o.now p.a.now p.b.now p.r.now p.f.now p.l.now no_counts) _ _ c.in-Refused.is c.refusing.ensures _ _ _ _ _ _ _ _ c.clear.ensures c.clear-in-Refused.ensures c.clear.ensures c.clear-in-Refused.ensures c.clear-in-Refused-2.ensures c.clear-in-Refused-3.ensures c.clear-in-Refused-4.ensures c.clear-in-Refused-2.ensures

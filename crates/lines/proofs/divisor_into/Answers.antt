@@ -22,4 +22,4 @@ returns-then-along c =
 pub returns : goal.returns
 returns c =
     divisor_held _ _ _ _ c.count.ensures c.if-count-ne3.false _ _ c.number_in-a.ensures c.part.ensures _ c.in-Is.is _ _ c.slot_of-every.ensures c.part-2.ensures c.if-every.false
-    _ _ c.slot_of-along.ensures c.part-3.ensures c.if-along.false _ _ _ _ c.least-start.ensures c.put_u64.ensures c.put_u64-2.ensures c.put_u64-3.ensures
+    _ _ c.slot_of-along.ensures c.part-3.ensures c.if-along.false _ _ _ _ c.least-start.ensures c.put.ensures c.put-2.ensures c.put-3.ensures

@@ -17,4 +17,4 @@ returns-then-high c =
 pub returns : goal.returns
 returns c =
     endpoints_held _ _ _ _ c.count.ensures c.if-count-ne2.false _ _ c.slot_of-low.ensures c.part.ensures c.if-low.false _ _ c.slot_of-high.ensures c.part-2.ensures c.if-high.false
-    _ _ _ c.least-start.ensures c.put_u64.ensures c.put_u64-2.ensures
+    _ _ _ c.least-start.ensures c.put.ensures c.put-2.ensures

@@ -26,7 +26,7 @@ returns-then-field-next c =
     let a = c.args in
     let l = c.loop-x in
     let f = number_in a.width in
-    ap (left (Count (l.n + 1))) c.put_u64.ensures
+    ap (left (Count (l.n + 1))) c.put.ensures
     ∙ list_ends f c.least-start.result l.p l.n a.field.now l.l (omega arith) _ c.number_from-a.ensures _ _ c.in-Number.is c.if-field-next.true
     ∙ l.invariant.3 ∙ ap (λ (k : ℕ). run f k (split 44 a.field.now) 0 a.l.now) c.least-start.ensures ∙ list_some f a.at a.field.now a.l.now c.if-field-eq0.false
 
@@ -46,7 +46,7 @@ loop-x-preserved c =
       omega arith,
       omega arith,
       omega arith,
-      ap (run f c.least-start.result (split 44 (drop c.in-Number.next a.field.now)) (l.n + 1)) c.put_u64.ensures
+      ap (run f c.least-start.result (split 44 (drop c.in-Number.next a.field.now)) (l.n + 1)) c.put.ensures
           ∙ list_goes f c.least-start.result l.p l.n a.field.now l.l (omega arith) _ c.number_from-a.ensures _ _ c.in-Number.is c.if-field-next.false
           ∙ l.invariant.3,
     )

@@ -8,4 +8,4 @@ returns-in_default c =
 
 pub returns : goal.returns
 returns c =
-    single_held _ _ _ _ c.number_in-a.ensures _ _ c.in-Is.is c.put_u64.ensures
+    single_held _ _ _ _ c.number_in-a.ensures _ _ c.in-Is.is c.put.ensures

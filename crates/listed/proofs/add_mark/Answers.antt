@@ -8,4 +8,4 @@ pub returns : goal.returns
 unfolding mark
 returns c =
     let a = c.args in
-    c.put_u64.ensures ∙ ap (set a.marks.now a.x) (c.once_more-m.ensures ∙ ap once_more c.at_u64.ensures)
+    c.put.ensures ∙ ap (set a.marks.now a.x) (c.once_more-m.ensures ∙ ap once_more c.at.ensures)

@@ -16,5 +16,5 @@ pub loop-id-preserved : goal.loop-id-preserved
 loop-id-preserved c =
     let a = c.args in
     let p = c.loop-id in
-    sym (find_step (λ j. ltb 1 (get_or a.marks.now j 0)) a.n p.id c.loop-id-test.true (ap (ltb 1) (sym c.at_u64.ensures) ∙ le-ltb _ _ c.if-at_u64-gt1.false))
+    sym (find_step (λ j. ltb 1 (get_or a.marks.now j 0)) a.n p.id c.loop-id-test.true (ap (ltb 1) (sym c.at.ensures) ∙ le-ltb _ _ c.if-at-gt1.false))
     ∙ p.invariant

@@ -20,6 +20,6 @@ returns c =
     let l = c.args.l.now in
     let h : 0 < s.len = omega arith in
     let here : s.start + 0 ≡ s.start = omega arith in
-    c.at_u64.ensures
+    c.at.ensures
     ∙ sym (get_or-take s.len (drop s.start l) 0 0 h ∙ get_or-drop s.start l 0 0 ∙ ap (λ (k : ℕ). get_or l k 0) here)
     ∙ rw (← c.attribute_numbers_span-span.ensures)

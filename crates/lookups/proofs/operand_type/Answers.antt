@@ -15,5 +15,5 @@ returns c =
       ← c.operands-operands.ensures,
       lt-ltb _ _ c.if-operands-k.false,
       c.value_type.ensures,
-      c.at_u64.ensures,
+      c.at.ensures,
     )

@@ -16,4 +16,4 @@ pub returns : goal.returns
 unfolding result_type_in
 returns c =
     let h : 0 < length c.result_types-types.result.now = omega arith in
-    rw (← c.result_types-types.ensures, lt-ltb _ _ h, c.at_u64.ensures)
+    rw (← c.result_types-types.ensures, lt-ltb _ _ h, c.at.ensures)

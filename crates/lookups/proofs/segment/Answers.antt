@@ -21,7 +21,7 @@ returns-else-sizes-position c =
       c.in-Integers.is,
       ← c.attribute_numbers-sizes.ensures,
       lt-ltb _ _ c.if-sizes-position.false,
-      c.at_u64.ensures,
+      c.at.ensures,
     )
 
 pub returns-in-Bools : goal.returns-in-Bools

@@ -17,4 +17,4 @@ returns-then-count-n c =
 
 pub returns : goal.returns
 returns c =
-    count_fits c.args.functions c.args.count c.args.n c.args.lengths.now c.if-functions-ge-MAX_FUNCTIONS.false (omega arith) _ c.put_u64.ensures
+    count_fits c.args.functions c.args.count c.args.n c.args.lengths.now c.if-functions-ge-MAX_FUNCTIONS.false (omega arith) _ c.put.ensures

@@ -19,4 +19,4 @@ returns-in-Refused c = λ t v e passed filled hn hl.
     let x = lent t v c.args.o.now e c.args.b.now c.args.r.now c.args.f.now c.args.l.now c.args.n in
     told_refused (entries_numbered c.args.sheet.now x) (sizes x) _ _ c.args.numbers.now c.args.lengths.now
     (c.visit_all.ensures t v e passed filled hn hl) c.in-Refused.is (walk_is x passed c.args.sheet.now)
-    (c.clear_u64.ensures ∙ ap (λ (k : ℕ). replicate k 0) c.visit_all.auto.numbers) (c.clear_u64-in-Refused.ensures ∙ ap (λ (k : ℕ). replicate k 0) c.visit_all.auto.lengths)
+    (c.clear.ensures ∙ ap (λ (k : ℕ). replicate k 0) c.visit_all.auto.numbers) (c.clear-in-Refused.ensures ∙ ap (λ (k : ℕ). replicate k 0) c.visit_all.auto.lengths)

@@ -13,4 +13,4 @@ returns-then-lengths-functions c = λ zs ns ez lz en ln.
 pub returns : goal.returns
 returns c = λ zs ns ez lz en ln.
     both_handed zs ns c.args.numbers.now c.args.lengths.now lz ln c.if-numbers-count.false c.if-lengths-functions.false
-    (c.entries.ensures ∙ sym ez) (c.entries-2.ensures ∙ sym en) c.copy_u64.ensures c.copy_u64-2.ensures
+    (c.entries.ensures ∙ sym ez) (c.entries-2.ensures ∙ sym en) c.copy.ensures c.copy-2.ensures

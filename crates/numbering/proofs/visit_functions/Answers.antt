@@ -35,13 +35,13 @@ loop-i-preserved c =
       w.auto.dense ∙ lp.invariant.0,
       w.auto.sparse ∙ lp.invariant.1,
       w.auto.numbers ∙ lp.invariant.2,
-      c.put_u64.auto.s ∙ lp.invariant.3,
+      c.put.auto.s ∙ lp.invariant.3,
       lp.invariant.4,
       λ t v e tells room.
           let x = lent t v c.args.o.now e c.args.b.now c.args.r.now c.args.f.now c.args.l.now c.args.n in
           let went = w.ensures t v e c.args.f.now tells (omega (arith, lp.invariant.0, room.dense)) (omega (arith, lp.invariant.1, room.sparse)) in
           let here = ap (function_numbered c.args.sheet.now x) (sym c.function-id.ensures) ∙ fine_is went c.in-Fine.is in
-          filling_more (lp.invariant.5 t v e tells room) room.all room.each h here (function_size x c.args.sheet.now _ went.list here) (wrote_is went c.in-Fine.is) c.rest.ensures c.put_u64.ensures,
+          filling_more (lp.invariant.5 t v e tells room) room.all room.each h here (function_size x c.args.sheet.now _ went.list here) (wrote_is went c.in-Fine.is) c.rest.ensures c.put.ensures,
     )
 
 pub returns : goal.returns

@@ -11,10 +11,10 @@ pub returns-then-next-number : goal.returns-then-next-number
 returns-then-next-number c =
     λ live s. let a = c.args in
     not_readable a.numbers.now a.stack.now a.places.now a.reading a.operation a.place s c.if-numbers-at.false
-    c.at_u64-number.result c.at_u64-number.ensures c.if-next-number.true c.first_refusal.result c.first_refusal.ensures
+    c.at-number.result c.at-number.ensures c.if-next-number.true c.first_refusal.result c.first_refusal.ensures
 
 pub returns : goal.returns
 returns c =
     λ live s. let a = c.args in
     readable a.numbers.now a.stack.now a.places.now a.reading a.operation a.place s c.if-numbers-at.false
-    c.at_u64-number.result c.at_u64-number.ensures c.if-next-number.false _ c.copy_place.ensures
+    c.at-number.result c.at-number.ensures c.if-next-number.false _ c.copy_place.ensures

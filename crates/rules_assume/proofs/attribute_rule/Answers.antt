@@ -10,7 +10,7 @@ returns-then-form-eq-DIVISOR c =
       ← c.attribute_form-form.ensures,
       eq-eqb _ _ c.if-form-eq-DIVISOR.true,
       ← c.attribute_numbers-numbers.ensures,
-      ← c.at_u64-divisor.ensures,
+      ← c.at-divisor.ensures,
       ← c.number_at-every.ensures,
       ← c.number_at-along.ensures,
     )

@@ -15,5 +15,5 @@ returns c =
       ← c.has_bit.ensures,
       c.if-has_bit.false,
       ← c.attribute_numbers.ensures,
-      c.at_u64.ensures,
+      c.at.ensures,
     )

@@ -26,7 +26,7 @@ returns-then-not-is_index_value c =
     let tested : let s = c.args in is_no_index s.t.now s.v.now s.o.now s.l.now s.sheet.now s.n s.operation c.loop-k.k ≡ not c.is_index_value.result = let s = c.args in
     let vs = c.operands-operands in
     let there : c.loop-k.k < length (operands_in s.o.now s.l.now s.n s.operation) = rw (← vs.ensures) c.loop-k-test.true in
-    rw (operand_is s.t.now s.v.now s.o.now s.l.now s.sheet.now s.n s.operation c.loop-k.k there, ← vs.ensures, ← c.at_u64.ensures, ← c.is_index_value.ensures) in
+    rw (operand_is s.t.now s.v.now s.o.now s.l.now s.sheet.now s.n s.operation c.loop-k.k there, ← vs.ensures, ← c.at.ensures, ← c.is_index_value.ensures) in
     let as_many : let s = c.args in length c.operands-operands.result.now ≡ s.offset + s.rank = omega arith in
     let past : let s = c.args in indices_differ s.t.now s.v.now s.o.now s.l.now s.sheet.now s.n s.operation s.offset s.rank ≡ any (is_no_index s.t.now s.v.now s.o.now s.l.now s.sheet.now s.n s.operation) (from c.loop-k.k (length c.operands-operands.result.now - c.loop-k.k)) = let s = c.args in
     same_count s.t.now s.v.now s.o.now s.l.now s.sheet.now s.n s.operation s.offset s.rank _ c.operands-operands.ensures as_many ∙ c.loop-k.invariant.3 in
@@ -39,7 +39,7 @@ loop-k-preserved c =
     let tested : let s = c.args in is_no_index s.t.now s.v.now s.o.now s.l.now s.sheet.now s.n s.operation c.loop-k.k ≡ not c.is_index_value.result = let s = c.args in
     let vs = c.operands-operands in
     let there : c.loop-k.k < length (operands_in s.o.now s.l.now s.n s.operation) = rw (← vs.ensures) c.loop-k-test.true in
-    rw (operand_is s.t.now s.v.now s.o.now s.l.now s.sheet.now s.n s.operation c.loop-k.k there, ← vs.ensures, ← c.at_u64.ensures, ← c.is_index_value.ensures) in
+    rw (operand_is s.t.now s.v.now s.o.now s.l.now s.sheet.now s.n s.operation c.loop-k.k there, ← vs.ensures, ← c.at.ensures, ← c.is_index_value.ensures) in
     let s = c.args in (
       c.loop-k.invariant.0,
       omega arith,

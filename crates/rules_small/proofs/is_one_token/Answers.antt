@@ -5,4 +5,4 @@ use Rattle.rules_small.proofs.is_one_token.Goals as goal
 pub returns : goal.returns
 returns c =
     let a = c.args in
-    rw (c.is_token.ensures, c.at_u64.ensures) (one_token a.t.now a.n a.types.now)
+    rw (c.is_token.ensures, c.at.ensures) (one_token a.t.now a.n a.types.now)

@@ -9,6 +9,6 @@ returns c =
       c.is_one_token.ensures,
       c.is_token.ensures,
       c.value_type-first.ensures,
-      c.at_u64.ensures,
+      c.at.ensures,
     )
     (signature_by a.t.now a.v.now a.n a.opcode a.types.now a.operands.now)

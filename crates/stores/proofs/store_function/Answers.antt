@@ -12,4 +12,4 @@ returns-in-Bad c =
 
 pub returns-else-n-ge-MAX_FUNCTIONS : goal.returns-else-n-ge-MAX_FUNCTIONS
 returns-else-n-ge-MAX_FUNCTIONS c =
-    function_taken _ _ _ _ _ c.function_line-w.ensures _ c.in-Row.is c.if-n-ge-MAX_FUNCTIONS.false _ c.narrow.ensures _ c.put_u32.ensures
+    function_taken _ _ _ _ _ c.function_line-w.ensures _ c.in-Row.is c.if-n-ge-MAX_FUNCTIONS.false _ c.narrow.ensures _ c.put.ensures

@@ -11,6 +11,6 @@ returns c =
     let row = c.args.row.now in
     let wanted = min (get_or row 5 0) 8 in
     let dims = drop 8 row in
-    let asked : c.least-wanted.result ≡ wanted = c.least-wanted.ensures ∙ ap (λ (k : ℕ). min k 8) c.at_u64.ensures in
+    let asked : c.least-wanted.result ≡ wanted = c.least-wanted.ensures ∙ ap (λ (k : ℕ). min k 8) c.at.ensures in
     let rank : c.least-rank.result ≡ min wanted (length dims) = c.least-rank.ensures ∙ rw (asked, c.rest.ensures, length-drop 8 row) in
-    rw (c.dims_of-dims.ensures, rank, length-take wanted dims, c.at_u64-kind.ensures)
+    rw (c.dims_of-dims.ensures, rank, length-take wanted dims, c.at-kind.ensures)

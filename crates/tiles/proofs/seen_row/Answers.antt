@@ -10,10 +10,10 @@ use Rattle.tiles.proofs.seen_row.Goals as goal
 pub returns-then-form-seen : goal.returns-then-form-seen
 returns-then-form-seen c =
     let a = c.args in
-    let form = c.at_u64-form.result in
-    let seen : Bool = (eqb form 1 || eqb form 2) && (eqb c.at_u64.result 0 || c.tile_through.result) in
+    let form = c.at-form.result in
+    let seen : Bool = (eqb form 1 || eqb form 2) && (eqb c.at.result 0 || c.tile_through.result) in
     let read : seen_in a.t.now a.sheet.now a.n a.id ≡ cond seen c.type_row-row.result.now [] =
-    rw (c.tile_through.ensures, c.at_u64.ensures, c.at_u64-form.ensures, c.type_row-row.ensures)
+    rw (c.tile_through.ensures, c.at.ensures, c.at-form.ensures, c.type_row-row.ensures)
     (seen_by a.t.now a.sheet.now a.n a.id) in
     let e : seen ≡ true = c.if-form-seen.true in
     sym (read ∙ rw e)
@@ -21,10 +21,10 @@ returns-then-form-seen c =
 pub returns : goal.returns
 returns c =
     let a = c.args in
-    let form = c.at_u64-form.result in
-    let seen : Bool = (eqb form 1 || eqb form 2) && (eqb c.at_u64.result 0 || c.tile_through.result) in
+    let form = c.at-form.result in
+    let seen : Bool = (eqb form 1 || eqb form 2) && (eqb c.at.result 0 || c.tile_through.result) in
     let read : seen_in a.t.now a.sheet.now a.n a.id ≡ cond seen c.type_row-row.result.now [] =
-    rw (c.tile_through.ensures, c.at_u64.ensures, c.at_u64-form.ensures, c.type_row-row.ensures)
+    rw (c.tile_through.ensures, c.at.ensures, c.at-form.ensures, c.type_row-row.ensures)
     (seen_by a.t.now a.sheet.now a.n a.id) in
     let e : seen ≡ false = c.if-form-seen.false in
     c.entries.ensures ∙ sym (read ∙ rw e)

@@ -24,7 +24,7 @@ returns-then-outside c =
     let f : SFits w64 c.signed.result = search rules in
     let g : SFits w64 c.dim.result = search rules in
     simp (to_z-of_z f, to_z-of_z g) at c.outside.ensures
-    ∙ rw (c.signed.ensures, c.at_u64.ensures, c.dim.ensures, signed_at) in
+    ∙ rw (c.signed.ensures, c.at.ensures, c.dim.ensures, signed_at) in
     let s = c.args in
     sym (c.loop-i.invariant.2
     ∙ any_here outside_dim (map signed_of s.sizes.now) (dims_of s.t) c.loop-i.i left (sym called ∙ c.if-outside.true))
@@ -37,7 +37,7 @@ loop-i-preserved c =
     let f : SFits w64 c.signed.result = search rules in
     let g : SFits w64 c.dim.result = search rules in
     simp (to_z-of_z f, to_z-of_z g) at c.outside.ensures
-    ∙ rw (c.signed.ensures, c.at_u64.ensures, c.dim.ensures, signed_at) in
+    ∙ rw (c.signed.ensures, c.at.ensures, c.dim.ensures, signed_at) in
     let s = c.args in (
       c.loop-i.invariant.0,
       omega arith,

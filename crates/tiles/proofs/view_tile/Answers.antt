@@ -8,8 +8,8 @@ use Rattle.tiles.proofs.view_tile.Goals as goal
 pub returns-then-form : goal.returns-then-form
 unfolding view_in
 returns-then-form c =
-    let form : let a = c.args in c.at_u64-form.result ≡ form_in a.t.now a.n a.id = let a = c.args in
-    c.at_u64-form.ensures ∙ rw c.type_row-row.ensures (form_at a.t.now a.n a.id) in
+    let form : let a = c.args in c.at-form.result ≡ form_in a.t.now a.n a.id = let a = c.args in
+    c.at-form.ensures ∙ rw c.type_row-row.ensures (form_at a.t.now a.n a.id) in
     let a = c.args in
     rw (← form, c.if-form.true)
     (c.row_tile.ensures ∙ ap (row_tile 1) c.type_row-row.ensures)
@@ -17,6 +17,6 @@ returns-then-form c =
 pub returns : goal.returns
 unfolding view_in
 returns c =
-    let form : let a = c.args in c.at_u64-form.result ≡ form_in a.t.now a.n a.id = let a = c.args in
-    c.at_u64-form.ensures ∙ rw c.type_row-row.ensures (form_at a.t.now a.n a.id) in
+    let form : let a = c.args in c.at-form.result ≡ form_in a.t.now a.n a.id = let a = c.args in
+    c.at-form.ensures ∙ rw c.type_row-row.ensures (form_at a.t.now a.n a.id) in
     rw (← form, c.if-form.false) c.no_tile.ensures

@@ -24,7 +24,7 @@ returns-then-seen_twice c =
     let a = c.args in
     let p = c.loop-value in
     let x = lent [] a.v.now a.o.now [] [] [] [] a.l.now a.n in
-    let e = asked x a.marks.now a.bases.now a.claims.now p.value _ _ c.at_u64-times.ensures c.claim_of-claim.ensures in
+    let e = asked x a.marks.now a.bases.now a.claims.now p.value _ _ c.at-times.ensures c.claim_of-claim.ensures in
     ap refused
     (sym (find_stop (seen x a.marks.now a.bases.now a.claims.now) a.n.values p.value c.loop-value-test.true (e ∙ sym c.seen_twice.ensures ∙ c.if-seen_twice.true)) ∙ p.invariant)
 
@@ -33,6 +33,6 @@ loop-value-preserved c =
     let a = c.args in
     let p = c.loop-value in
     let x = lent [] a.v.now a.o.now [] [] [] [] a.l.now a.n in
-    let e = asked x a.marks.now a.bases.now a.claims.now p.value _ _ c.at_u64-times.ensures c.claim_of-claim.ensures in
+    let e = asked x a.marks.now a.bases.now a.claims.now p.value _ _ c.at-times.ensures c.claim_of-claim.ensures in
     sym (find_step (seen x a.marks.now a.bases.now a.claims.now) a.n.values p.value c.loop-value-test.true (e ∙ sym c.seen_twice.ensures ∙ c.if-seen_twice.false))
     ∙ p.invariant

@@ -15,7 +15,7 @@ returns-in_default c =
 pub returns-then-index-result_count : goal.returns-then-index-result_count
 returns-then-index-result_count c =
     let a = c.args in
-    put_declared (declared (lent [] [] a.o.now [] [] [] [] a.l.now a.n)) a.bases.now a.number a.claim a.claims.now _ _ c.in-Result.is (ap (ltb _) (sym c.result_count.ensures) ∙ lt-ltb _ _ c.if-index-result_count.true) _ c.at_u64-base.ensures _ c.put_cell_u64.ensures
+    put_declared (declared (lent [] [] a.o.now [] [] [] [] a.l.now a.n)) a.bases.now a.number a.claim a.claims.now _ _ c.in-Result.is (ap (ltb _) (sym c.result_count.ensures) ∙ lt-ltb _ _ c.if-index-result_count.true) _ c.at-base.ensures _ c.put_cell.ensures
 
 pub returns-else-index-result_count : goal.returns-else-index-result_count
 returns-else-index-result_count c =

@@ -11,5 +11,5 @@ returns-then-is_live-clause-by_index c = λ live g. see_again g c.args.v c.if-nv
 
 pub returns-clause-by_index : goal.returns-clause-by_index
 returns-clause-by_index c = λ live g.
-    rw (c.put_u64.ensures, c.put_u64-2.ensures)
+    rw (c.put.ensures, c.put-2.ensures)
     (see_new g c.args.v c.if-nv-v.false c.if-nv-next.false (sym (c.is_live.ensures c.args.nv live g) ∙ c.if-is_live.false))
