@@ -1,10 +1,12 @@
 -- The answers, and the paper's three numbers for each refusal: the table "Codes", row by row.
-use Rattle.std.specs.Prelude.{ℕ, List, [], ◌∷◌}
+use Rattle.std.specs.Prelude.{ℕ, List, [], ◌∷◌, Result, Ok, Err, ⊤}
 use Rattle.tables.specs.declared.Refusal.{Refusal}
 use Rattle.tables.specs.declared.Refusal.TheVariants.{OutOfRange, ListedTwice, TooDeep, DefinedTwice, NotVisible, ResultCount, NoValue, NoNumber, VersionLow, ArchitectureNot, RuleBroken, ProductLeaves, TooShort, NotReadable, NotInForm, NoTarget}
-use Rattle.tables.specs.declared.Answer.{Answer}
-use Rattle.tables.specs.declared.Answer.TheVariants.{Accepted, Refused}
 use Rattle.tables.specs.declared.Numbers.{Numbers}
+
+-- accepted, or the first refusal
+abbrev pub Answer : Type 0
+Answer = Result ⊤ Refusal
 
 abbrev pub three : ℕ → ℕ → ℕ → Numbers
 three c i d = record { code = c; id = i; detail = d }
@@ -30,10 +32,10 @@ numbers_of NoTarget = three 16 0 0
 
 -- the first refusal of two answers
 abbrev pub and_then : Answer → Answer → Answer
-and_then Accepted b = b
-and_then (Refused r) b = Refused r
+and_then (Ok _) b = b
+and_then (Err r) b = Err r
 
 -- the first refusal along a list
 abbrev pub each : {A : Type 0} → (A → Answer) → List A → Answer
-each f [] = Accepted
+each f [] = Ok tt
 each f (x ∷ xs) = and_then (f x) (each f xs)

@@ -8,13 +8,12 @@
 --   B   4 cells   start and length of arguments, of operations
 --   R   2 cells   start and length of blocks
 --   F   1 cell    operation
-use Rattle.std.specs.Prelude.{ℕ, ◌-◌, min, cond, List, ltb, eqb, take}
+use Rattle.std.specs.Prelude.{ℕ, ◌-◌, min, cond, List, ltb, eqb, take, Option, Some, None}
 use Rattle.cells.specs.Cell.{cell, span_at, entries_of, part_at}
 use Rattle.cells.specs.declared.Span.{Span}
 use Rattle.tables.specs.Sizes.{max_rank}
 use Rattle.tables.specs.declared.Counts.{Counts}
 use Rattle.tables.specs.declared.Claim.{Claim}
-use Rattle.tables.specs.declared.Claim.TheVariants.{Result, Nothing}
 
 -- a cell of an entry that counts, 0 of any other; `n` entries in rows of `w` cells
 abbrev pub counted_cell : ℕ → ℕ → List ℕ → ℕ → ℕ → ℕ
@@ -91,11 +90,11 @@ value_type_in v n i = counted_cell n.values 4 v i 0
 unfoldable pub claim_flag_in : List ℕ → Counts → ℕ → ℕ
 claim_flag_in v n i = counted_cell n.values 4 v i 1
 
-unfoldable pub claim_in : List ℕ → Counts → ℕ → Claim
+unfoldable pub claim_in : List ℕ → Counts → ℕ → Option Claim
 claim_in v n i =
     cond (eqb (claim_flag_in v n i) 1)
-    (Result (counted_cell n.values 4 v i 2) (counted_cell n.values 4 v i 3))
-    Nothing
+    (Some (record { operation = counted_cell n.values 4 v i 2; index = counted_cell n.values 4 v i 3 }))
+    None
 
 -- ---- of a type
 

@@ -4,18 +4,16 @@
 --   272 to 287  for each destination kind, the mask of source kinds it contains
 --   288 to 303  for each kind, its width in bytes
 --   304         1 where a tile is seen through a pointer attribute
-use Rattle.std.specs.Prelude.{ℕ, Bool, cond, List, eqb, get_or}
+use Rattle.std.specs.Prelude.{ℕ, Bool, cond, List, eqb, get_or, Option, Some, None}
 use Rattle.tables.specs.Sizes.{opcodes, kinds, modes}
 use Rattle.tables.specs.Layout.{counted_cell}
-use Rattle.tables.specs.declared.Fixed.{Fixed}
-use Rattle.tables.specs.declared.Fixed.TheVariants.{Count, Free}
 
 -- "fixed result count per opcode or none"
 unfoldable pub fixed_flag_in : List ℕ → ℕ → ℕ
 fixed_flag_in s op = counted_cell opcodes 2 s op 0
 
-unfoldable pub fixed_count_in : List ℕ → ℕ → Fixed
-fixed_count_in s op = cond (eqb (fixed_flag_in s op) 1) (Count (counted_cell opcodes 2 s op 1)) Free
+unfoldable pub fixed_count_in : List ℕ → ℕ → Option ℕ
+fixed_count_in s op = cond (eqb (fixed_flag_in s op) 1) (Some (counted_cell opcodes 2 s op 1)) None
 
 -- "per atomic mode 0 to 15 a mask of 16 element kinds"; "A mode absent or outside 0 to 15 is invalid": its mask is 0
 unfoldable pub mode_mask_in : List ℕ → ℕ → ℕ

@@ -1,5 +1,5 @@
 -- The tables as one record, and everything the paper speaks of, read off it. Definitions above this crate use these names alone.
-use Rattle.std.specs.Prelude.{ℕ, List, [], Bool, length, ltb}
+use Rattle.std.specs.Prelude.{ℕ, List, [], Bool, length, ltb, Option}
 use Rattle.cells.specs.Lists.{from}
 use Rattle.tables.specs.Layout.{opcode_in, result_types_span_in, result_types_in, operands_span_in, operands_in, regions_span_in, regions_in, attributes_span_in, attributes_in, arguments_span_in, arguments_in, operations_span_in, operations_in, blocks_span_in, blocks_in, functions_in, value_type_in, claim_flag_in, claim_in, form_in, kind_in, pointer_in, padded_in, sparse_in, rank_in, dims_in, name_in, attribute_form_in, numbers_span_in, numbers_in, absent_in}
 use Rattle.cells.specs.declared.Span.{Span}
@@ -68,7 +68,7 @@ arguments x j = arguments_in x.b x.l x.counts j
 abbrev pub value_type : Tables → ℕ → ℕ
 value_type x v = value_type_in x.v x.counts v
 
-abbrev pub claim : Tables → ℕ → Claim
+abbrev pub claim : Tables → ℕ → Option Claim
 claim x v = claim_in x.v x.counts v
 
 -- "A declared result is one whose index lies below its operation's result count."

@@ -1,13 +1,17 @@
 // The paper's tables: their sizes, where things stand in the lent slices, and the answers.
-#![tactic(auto)]
+#![tactic(auto, unfolding(crate::specs::Layout::opcode_in, crate::specs::Layout::result_types_span_in, crate::specs::Layout::result_types_in, crate::specs::Layout::operands_span_in, crate::specs::Layout::operands_in, crate::specs::Layout::regions_span_in, crate::specs::Layout::regions_in, crate::specs::Layout::attributes_span_in, crate::specs::Layout::attributes_in, crate::specs::Layout::arguments_span_in, crate::specs::Layout::arguments_in, crate::specs::Layout::operations_span_in, crate::specs::Layout::operations_in, crate::specs::Layout::blocks_span_in, crate::specs::Layout::blocks_in, crate::specs::Layout::functions_in, crate::specs::Layout::value_type_in, crate::specs::Layout::claim_flag_in, crate::specs::Layout::claim_in, crate::specs::Layout::form_in, crate::specs::Layout::kind_in, crate::specs::Layout::pointer_in, crate::specs::Layout::padded_in, crate::specs::Layout::sparse_in, crate::specs::Layout::rank_in, crate::specs::Layout::dims_in, crate::specs::Layout::name_in, crate::specs::Layout::attribute_form_in, crate::specs::Layout::numbers_span_in, crate::specs::Layout::numbers_in, crate::specs::Layout::absent_in, crate::specs::Sheet::fixed_flag_in, crate::specs::Sheet::fixed_count_in, crate::specs::Sheet::mode_mask_in, crate::specs::Sheet::contained_mask_in, crate::specs::Sheet::byte_width_in, crate::specs::Sheet::tile_flag_in, crate::specs::Sheet::tile_through_in))]
 
-ghost use Rattle.std.specs.Prelude.{◌≡◌, Bool, get_or, take};
-ghost use Rattle.tables.specs.Layout.{counted_cell, counted_span, opcode_in, result_types_span_in, result_types_in, operands_span_in, operands_in, regions_span_in, regions_in, attributes_span_in, attributes_in, arguments_span_in, arguments_in, operations_span_in, operations_in, blocks_span_in, blocks_in, functions_in, value_type_in, claim_flag_in, claim_in, form_in, kind_in, pointer_in, padded_in, sparse_in, rank_in, dims_in, name_in, attribute_form_in, numbers_span_in, numbers_in, absent_in};
+ghost use Rattle.std.specs.Prelude.{◌≡◌, ◌+◌, ◌*◌, Bool, cond, ltb, get_or, take};
+ghost use Rattle.cells.specs.Cell.{span_at};
+ghost use Rattle.tables.specs.Layout.{counted_cell, counted_span};
+ghost use Rattle.tables.specs.Tables.{cut, opcode, result_types_span, result_types, operands_span, operands, regions_span, regions, attributes_span, arguments_span, arguments, operations_span, operations, blocks_span, blocks, functions, value_type, claim_flag, claim, type_form, type_kind, type_pointer, type_padded, type_sparse, type_rank, type_dims, attribute_name, attribute_form, numbers_span, attribute_numbers, attribute_absent};
+ghost use Rattle.tables.specs.Layout.{attributes_in};
 ghost use Rattle.tables.specs.Sheet.{fixed_flag_in, fixed_count_in, mode_mask_in, contained_mask_in, byte_width_in, tile_flag_in, tile_through_in};
 ghost use Rattle.tables.specs.Sizes.{cut_counts};
 ghost use Rattle.tables.specs.Answer.{numbers_of};
 
-use cells::Span;
+use cells::{Span, Word};
+use std::marker::Model;
 
 // How many entries a table may have.
 pub const MAX_TYPES: u64 = 1024;
@@ -87,16 +91,9 @@ pub struct Target {
 
 // The declared result that a value claims to be.
 #[derive(Clone, Copy)]
-pub enum Claim {
-    Result(u64, u64),
-    Nothing,
-}
-
-// How many results the sheet fixes for an opcode.
-#[derive(Clone, Copy)]
-pub enum Fixed {
-    Count(u64),
-    Free,
+pub struct Claim {
+    pub operation: u64,
+    pub index: u64,
 }
 
 // Where a value is defined: a block and a position, an operation and a result, or nowhere.
@@ -128,11 +125,8 @@ pub enum Refusal {
     NoTarget,
 }
 
-#[derive(Clone, Copy)]
-pub enum Answer {
-    Accepted,
-    Refused(Refusal),
-}
+// Accepted, or the first refusal.
+pub type Answer = Result<(), Refusal>;
 
 // What is printed of a refusal.
 #[derive(Clone, Copy)]
@@ -230,18 +224,8 @@ pub fn numbers_of(refusal: Refusal) -> Numbers
 }
 
 // A cell of an entry that counts, 0 of any other.
-fn counted_u32(s: &[u32], count: u64, width: u64, row: u64, column: u64) -> u64
-    ensures { result ≡ counted_cell count width s.now row column }
-{
-    if row < count {
-        cells::cell(s, width, row, column)
-    } else {
-        0
-    }
-}
-
-fn counted_u64(s: &[u64], count: u64, width: u64, row: u64, column: u64) -> u64
-    ensures { result ≡ counted_cell count width s.now row column }
+fn counted<T: Word>(s: &[T], count: u64, width: u64, row: u64, column: u64) -> u64
+    ensures { result ≡ cond (ltb row count) (T.number (get_or s.now (row * width + column) T.zero)) 0 }
 {
     if row < count {
         cells::cell(s, width, row, column)
@@ -260,220 +244,357 @@ fn counted_span(s: &[u32], count: u64, width: u64, row: u64, column: u64) -> Spa
     Span { start: 0, len: 0 }
 }
 
-// Of an operation.
-pub fn opcode(o: &[u32], n: Counts, operation: u64) -> u64
-    ensures { result ≡ opcode_in o.now n operation }
-{
-    counted_u32(o, n.operations, OPERATION_CELLS, operation, 0)
+// The lent tables, and how many entries of each count. Whatever is lent, each question has its answer.
+#[derive(Drop)]
+pub struct Tables<'a> {
+    types: &'a [u64],
+    values: &'a [u64],
+    operations: &'a [u32],
+    attributes: &'a [u32],
+    blocks: &'a [u32],
+    regions: &'a [u32],
+    functions: &'a [u32],
+    entries: &'a [u64],
+    counts: Counts,
 }
 
-pub fn result_types_span(o: &[u32], n: Counts, operation: u64) -> Span
-    ensures { result ≡ result_types_span_in o.now n operation }
-{
-    counted_span(o, n.operations, OPERATION_CELLS, operation, 1)
+impl<'a> Model for Tables<'a> {
+    ghost use Rattle.tables.specs.Tables.{Tables};
+
+    ghost Value = { Tables };
+
+    ghost view = { λ a. record { t = a.types.now; v = a.values.now; o = a.operations.now; a = a.attributes.now; b = a.blocks.now; r = a.regions.now; f = a.functions.now; l = a.entries.now; counts = a.counts } };
 }
 
-pub fn result_types<'a>(o: &[u32], l: &'a [u64], n: Counts, operation: u64) -> &'a [u64]
-    ensures { result.now ≡ result_types_in o.now l.now n operation }
-{
-    cells::entries(l, result_types_span(o, n, operation))
-}
-
-pub fn operands_span(o: &[u32], n: Counts, operation: u64) -> Span
-    ensures { result ≡ operands_span_in o.now n operation }
-{
-    counted_span(o, n.operations, OPERATION_CELLS, operation, 3)
-}
-
-pub fn operands<'a>(o: &[u32], l: &'a [u64], n: Counts, operation: u64) -> &'a [u64]
-    ensures { result.now ≡ operands_in o.now l.now n operation }
-{
-    cells::entries(l, operands_span(o, n, operation))
-}
-
-pub fn regions_span(o: &[u32], n: Counts, operation: u64) -> Span
-    ensures { result ≡ regions_span_in o.now n operation }
-{
-    counted_span(o, n.operations, OPERATION_CELLS, operation, 5)
-}
-
-pub fn regions<'a>(o: &[u32], l: &'a [u64], n: Counts, operation: u64) -> &'a [u64]
-    ensures { result.now ≡ regions_in o.now l.now n operation }
-{
-    cells::entries(l, regions_span(o, n, operation))
-}
-
-// Its attributes stand next to each other: the first, and how many.
-pub fn attributes_span(o: &[u32], n: Counts, operation: u64) -> Span
-    ensures { result ≡ attributes_span_in o.now n operation }
-{
-    counted_span(o, n.operations, OPERATION_CELLS, operation, 7)
-}
-
-// The same, as far as the attributes go.
-pub fn attributes(o: &[u32], n: Counts, operation: u64) -> Span
-    ensures { result ≡ attributes_in o.now n operation }
-{
-    let span = attributes_span(o, n, operation);
-    let rest = cells::rest(n.attributes, span.start);
-    Span {
-        start: span.start,
-        len: cells::least(span.len, rest),
+impl<'a> Tables<'a> {
+    // The tables T, V, O, A, B, R, F and the list entries.
+    pub fn new(
+        types: &'a [u64],
+        values: &'a [u64],
+        operations: &'a [u32],
+        attributes: &'a [u32],
+        blocks: &'a [u32],
+        regions: &'a [u32],
+        functions: &'a [u32],
+        entries: &'a [u64],
+        counts: Counts,
+    ) -> Tables<'a>
+        ensures { result ≡ record { t = types.now; v = values.now; o = operations.now; a = attributes.now; b = blocks.now; r = regions.now; f = functions.now; l = entries.now; counts = counts } }
+    {
+        Tables {
+            types,
+            values,
+            operations,
+            attributes,
+            blocks,
+            regions,
+            functions,
+            entries,
+            counts,
+        }
     }
-}
 
-// Of a block.
-pub fn arguments_span(b: &[u32], n: Counts, block: u64) -> Span
-    ensures { result ≡ arguments_span_in b.now n block }
-{
-    counted_span(b, n.blocks, BLOCK_CELLS, block, 0)
-}
-
-pub fn arguments<'a>(b: &[u32], l: &'a [u64], n: Counts, block: u64) -> &'a [u64]
-    ensures { result.now ≡ arguments_in b.now l.now n block }
-{
-    cells::entries(l, arguments_span(b, n, block))
-}
-
-pub fn operations_span(b: &[u32], n: Counts, block: u64) -> Span
-    ensures { result ≡ operations_span_in b.now n block }
-{
-    counted_span(b, n.blocks, BLOCK_CELLS, block, 2)
-}
-
-pub fn operations<'a>(b: &[u32], l: &'a [u64], n: Counts, block: u64) -> &'a [u64]
-    ensures { result.now ≡ operations_in b.now l.now n block }
-{
-    cells::entries(l, operations_span(b, n, block))
-}
-
-// Of a region.
-pub fn blocks_span(r: &[u32], n: Counts, region: u64) -> Span
-    ensures { result ≡ blocks_span_in r.now n region }
-{
-    counted_span(r, n.regions, REGION_CELLS, region, 0)
-}
-
-pub fn blocks<'a>(r: &[u32], l: &'a [u64], n: Counts, region: u64) -> &'a [u64]
-    ensures { result.now ≡ blocks_in r.now l.now n region }
-{
-    cells::entries(l, blocks_span(r, n, region))
-}
-
-// The operation of the function at a position.
-pub fn function(f: &[u32], n: Counts, position: u64) -> u64
-    ensures { result ≡ get_or (functions_in f.now n) position 0 }
-{
-    counted_u32(f, n.functions, FUNCTION_CELLS, position, 0)
-}
-
-// Of a value.
-pub fn value_type(v: &[u64], n: Counts, value: u64) -> u64
-    ensures { result ≡ value_type_in v.now n value }
-{
-    counted_u64(v, n.values, VALUE_CELLS, value, 0)
-}
-
-// Whether it claims a result: 1 where it does.
-pub fn claim_flag(v: &[u64], n: Counts, value: u64) -> u64
-    ensures { result ≡ claim_flag_in v.now n value }
-{
-    counted_u64(v, n.values, VALUE_CELLS, value, 1)
-}
-
-pub fn claim_of(v: &[u64], n: Counts, value: u64) -> Claim
-    ensures { result ≡ claim_in v.now n value }
-{
-    if claim_flag(v, n, value) != 1 {
-        return Claim::Nothing;
+    pub fn counts(&self) -> Counts
+        ensures { result ≡ self.now.counts }
+    {
+        self.counts
     }
-    let operation = counted_u64(v, n.values, VALUE_CELLS, value, 2);
-    let index = counted_u64(v, n.values, VALUE_CELLS, value, 3);
-    Claim::Result(operation, index)
-}
 
-// Of a type.
-pub fn type_form(t: &[u64], n: Counts, id: u64) -> u64
-    ensures { result ≡ form_in t.now n id }
-{
-    counted_u64(t, n.types, TYPE_CELLS, id, 0)
-}
-
-pub fn type_kind(t: &[u64], n: Counts, id: u64) -> u64
-    ensures { result ≡ kind_in t.now n id }
-{
-    counted_u64(t, n.types, TYPE_CELLS, id, 1)
-}
-
-// A token's pointer attribute counts as absent.
-pub fn type_pointer(t: &[u64], n: Counts, id: u64) -> u64
-    ensures { result ≡ pointer_in t.now n id }
-{
-    if type_form(t, n, id) == 0 {
-        return 0;
+    // The same tables, with counts that no size is passed by.
+    pub fn cut(&self) -> Tables<'a>
+        ensures { result ≡ cut self.now }
+    {
+        Tables {
+            types: self.types,
+            values: self.values,
+            operations: self.operations,
+            attributes: self.attributes,
+            blocks: self.blocks,
+            regions: self.regions,
+            functions: self.functions,
+            entries: self.entries,
+            counts: cut_counts(self.counts),
+        }
     }
-    counted_u64(t, n.types, TYPE_CELLS, id, 2)
-}
 
-pub fn type_padded(t: &[u64], n: Counts, id: u64) -> u64
-    ensures { result ≡ padded_in t.now n id }
-{
-    counted_u64(t, n.types, TYPE_CELLS, id, 3)
-}
-
-pub fn type_sparse(t: &[u64], n: Counts, id: u64) -> u64
-    ensures { result ≡ sparse_in t.now n id }
-{
-    counted_u64(t, n.types, TYPE_CELLS, id, 4)
-}
-
-pub fn type_rank(t: &[u64], n: Counts, id: u64) -> u64
-    ensures { result ≡ rank_in t.now n id }
-{
-    counted_u64(t, n.types, TYPE_CELLS, id, 5)
-}
-
-// As many dims as the rank says, and no more than eight.
-pub fn type_dims(t: &[u64], n: Counts, id: u64) -> &[u64]
-    ensures { result.now ≡ dims_in t.now n id }
-{
-    let rank = type_rank(t, n, id);
-    if rank <= MAX_RANK {
-        return cells::part_at(t, TYPE_CELLS, id, 8, rank);
+    // A column of a row, and the list that stands in a column and the next.
+    fn operation_list(&self, operation: u64, column: u64) -> Span
+        ensures { result ≡ counted_span self.now.counts.operations 16 self.now.o operation column }
+    {
+        counted_span(
+            self.operations,
+            self.counts.operations,
+            OPERATION_CELLS,
+            operation,
+            column,
+        )
     }
-    cells::part_at(t, TYPE_CELLS, id, 8, MAX_RANK)
-}
 
-// Of an attribute.
-pub fn attribute_name(a: &[u32], n: Counts, attribute: u64) -> u64
-    ensures { result ≡ name_in a.now n attribute }
-{
-    counted_u32(a, n.attributes, ATTRIBUTE_CELLS, attribute, 0)
-}
+    fn block_list(&self, block: u64, column: u64) -> Span
+        ensures { result ≡ counted_span self.now.counts.blocks 4 self.now.b block column }
+    {
+        counted_span(self.blocks, self.counts.blocks, BLOCK_CELLS, block, column)
+    }
 
-pub fn attribute_form(a: &[u32], n: Counts, attribute: u64) -> u64
-    ensures { result ≡ attribute_form_in a.now n attribute }
-{
-    counted_u32(a, n.attributes, ATTRIBUTE_CELLS, attribute, 1)
-}
+    fn value_cell(&self, value: u64, column: u64) -> u64
+        ensures { result ≡ counted_cell self.now.counts.values 4 self.now.v value column }
+    {
+        counted(self.values, self.counts.values, VALUE_CELLS, value, column)
+    }
 
-pub fn attribute_numbers_span(a: &[u32], n: Counts, attribute: u64) -> Span
-    ensures { result ≡ numbers_span_in a.now n attribute }
-{
-    counted_span(a, n.attributes, ATTRIBUTE_CELLS, attribute, 2)
-}
+    fn type_cell(&self, id: u64, column: u64) -> u64
+        ensures { result ≡ counted_cell self.now.counts.types 16 self.now.t id column }
+    {
+        counted(self.types, self.counts.types, TYPE_CELLS, id, column)
+    }
 
-pub fn attribute_numbers<'a>(a: &[u32], l: &'a [u64], n: Counts, attribute: u64) -> &'a [u64]
-    ensures { result.now ≡ numbers_in a.now l.now n attribute }
-{
-    cells::entries(l, attribute_numbers_span(a, n, attribute))
-}
+    fn attribute_cell(&self, attribute: u64, column: u64) -> u64
+        ensures { result ≡ counted_cell self.now.counts.attributes 8 self.now.a attribute column }
+    {
+        counted(
+            self.attributes,
+            self.counts.attributes,
+            ATTRIBUTE_CELLS,
+            attribute,
+            column,
+        )
+    }
 
-// Which of its numbers are absent: bit k for number k.
-pub fn attribute_absent(a: &[u32], n: Counts, attribute: u64) -> u64
-    ensures { result ≡ absent_in a.now n attribute }
-{
-    counted_u32(a, n.attributes, ATTRIBUTE_CELLS, attribute, 4)
+    // Of an operation.
+    pub fn opcode(&self, operation: u64) -> u64
+        ensures { result ≡ opcode self.now operation }
+    {
+        counted(
+            self.operations,
+            self.counts.operations,
+            OPERATION_CELLS,
+            operation,
+            0,
+        )
+    }
+
+    pub fn result_types_span(&self, operation: u64) -> Span
+        ensures { result ≡ result_types_span self.now operation }
+    {
+        self.operation_list(operation, 1)
+    }
+
+    pub fn result_types(&self, operation: u64) -> &'a [u64]
+        ensures { result.now ≡ result_types self.now operation }
+    {
+        cells::entries(self.entries, self.result_types_span(operation))
+    }
+
+    pub fn operands_span(&self, operation: u64) -> Span
+        ensures { result ≡ operands_span self.now operation }
+    {
+        self.operation_list(operation, 3)
+    }
+
+    pub fn operands(&self, operation: u64) -> &'a [u64]
+        ensures { result.now ≡ operands self.now operation }
+    {
+        cells::entries(self.entries, self.operands_span(operation))
+    }
+
+    pub fn regions_span(&self, operation: u64) -> Span
+        ensures { result ≡ regions_span self.now operation }
+    {
+        self.operation_list(operation, 5)
+    }
+
+    pub fn regions(&self, operation: u64) -> &'a [u64]
+        ensures { result.now ≡ regions self.now operation }
+    {
+        cells::entries(self.entries, self.regions_span(operation))
+    }
+
+    // Its attributes stand next to each other: the first, and how many.
+    pub fn attributes_span(&self, operation: u64) -> Span
+        ensures { result ≡ attributes_span self.now operation }
+    {
+        self.operation_list(operation, 7)
+    }
+
+    // The same, as far as the attributes go.
+    pub fn attributes(&self, operation: u64) -> Span
+        ensures { result ≡ attributes_in self.now.o self.now.counts operation }
+    {
+        let span = self.attributes_span(operation);
+        let rest = self.counts.attributes.saturating_sub(span.start);
+        Span {
+            start: span.start,
+            len: span.len.min(rest),
+        }
+    }
+
+    // Of a block.
+    pub fn arguments_span(&self, block: u64) -> Span
+        ensures { result ≡ arguments_span self.now block }
+    {
+        self.block_list(block, 0)
+    }
+
+    pub fn arguments(&self, block: u64) -> &'a [u64]
+        ensures { result.now ≡ arguments self.now block }
+    {
+        cells::entries(self.entries, self.arguments_span(block))
+    }
+
+    pub fn operations_span(&self, block: u64) -> Span
+        ensures { result ≡ operations_span self.now block }
+    {
+        self.block_list(block, 2)
+    }
+
+    pub fn operations(&self, block: u64) -> &'a [u64]
+        ensures { result.now ≡ operations self.now block }
+    {
+        cells::entries(self.entries, self.operations_span(block))
+    }
+
+    // Of a region.
+    pub fn blocks_span(&self, region: u64) -> Span
+        ensures { result ≡ blocks_span self.now region }
+    {
+        counted_span(self.regions, self.counts.regions, REGION_CELLS, region, 0)
+    }
+
+    pub fn blocks(&self, region: u64) -> &'a [u64]
+        ensures { result.now ≡ blocks self.now region }
+    {
+        cells::entries(self.entries, self.blocks_span(region))
+    }
+
+    // The operation of the function at a position.
+    pub fn function(&self, position: u64) -> u64
+        ensures { result ≡ get_or (functions self.now) position 0 }
+    {
+        counted(
+            self.functions,
+            self.counts.functions,
+            FUNCTION_CELLS,
+            position,
+            0,
+        )
+    }
+
+    // Of a value.
+    pub fn value_type(&self, value: u64) -> u64
+        ensures { result ≡ value_type self.now value }
+    {
+        self.value_cell(value, 0)
+    }
+
+    // Whether it claims a result: 1 where it does.
+    pub fn claim_flag(&self, value: u64) -> u64
+        ensures { result ≡ claim_flag self.now value }
+    {
+        self.value_cell(value, 1)
+    }
+
+    pub fn claim(&self, value: u64) -> Option<Claim>
+        ensures { result ≡ claim self.now value }
+    {
+        if self.claim_flag(value) != 1 {
+            return None;
+        }
+        let operation = self.value_cell(value, 2);
+        let index = self.value_cell(value, 3);
+        Some(Claim { operation, index })
+    }
+
+    // Of a type.
+    pub fn type_form(&self, id: u64) -> u64
+        ensures { result ≡ type_form self.now id }
+    {
+        self.type_cell(id, 0)
+    }
+
+    pub fn type_kind(&self, id: u64) -> u64
+        ensures { result ≡ type_kind self.now id }
+    {
+        self.type_cell(id, 1)
+    }
+
+    // A token's pointer attribute counts as absent.
+    pub fn type_pointer(&self, id: u64) -> u64
+        ensures { result ≡ type_pointer self.now id }
+    {
+        if self.type_form(id) == 0 {
+            return 0;
+        }
+        self.type_cell(id, 2)
+    }
+
+    pub fn type_padded(&self, id: u64) -> u64
+        ensures { result ≡ type_padded self.now id }
+    {
+        self.type_cell(id, 3)
+    }
+
+    pub fn type_sparse(&self, id: u64) -> u64
+        ensures { result ≡ type_sparse self.now id }
+    {
+        self.type_cell(id, 4)
+    }
+
+    pub fn type_rank(&self, id: u64) -> u64
+        ensures { result ≡ type_rank self.now id }
+    {
+        self.type_cell(id, 5)
+    }
+
+    // As many dims as the rank says, and no more than eight.
+    pub fn type_dims(&self, id: u64) -> &'a [u64]
+        ensures { result.now ≡ type_dims self.now id }
+    {
+        cells::part_at(
+            self.types,
+            TYPE_CELLS,
+            id,
+            8,
+            self.type_rank(id).min(MAX_RANK),
+        )
+    }
+
+    // Of an attribute.
+    pub fn attribute_name(&self, attribute: u64) -> u64
+        ensures { result ≡ attribute_name self.now attribute }
+    {
+        self.attribute_cell(attribute, 0)
+    }
+
+    pub fn attribute_form(&self, attribute: u64) -> u64
+        ensures { result ≡ attribute_form self.now attribute }
+    {
+        self.attribute_cell(attribute, 1)
+    }
+
+    pub fn attribute_numbers_span(&self, attribute: u64) -> Span
+        ensures { result ≡ numbers_span self.now attribute }
+    {
+        counted_span(
+            self.attributes,
+            self.counts.attributes,
+            ATTRIBUTE_CELLS,
+            attribute,
+            2,
+        )
+    }
+
+    pub fn attribute_numbers(&self, attribute: u64) -> &'a [u64]
+        ensures { result.now ≡ attribute_numbers self.now attribute }
+    {
+        cells::entries(self.entries, self.attribute_numbers_span(attribute))
+    }
+
+    // Which of its numbers are absent: bit k for number k.
+    pub fn attribute_absent(&self, attribute: u64) -> u64
+        ensures { result ≡ attribute_absent self.now attribute }
+    {
+        self.attribute_cell(attribute, 4)
+    }
 }
 
 // Of the sheet.
@@ -481,35 +602,34 @@ pub fn attribute_absent(a: &[u32], n: Counts, attribute: u64) -> u64
 pub fn fixed_flag(sheet: &[u64], opcode: u64) -> u64
     ensures { result ≡ fixed_flag_in sheet.now opcode }
 {
-    counted_u64(sheet, 105, 2, opcode, 0)
+    counted(sheet, 105, 2, opcode, 0)
 }
 
-pub fn fixed_count(sheet: &[u64], opcode: u64) -> Fixed
+pub fn fixed_count(sheet: &[u64], opcode: u64) -> Option<u64>
     ensures { result ≡ fixed_count_in sheet.now opcode }
 {
     if fixed_flag(sheet, opcode) != 1 {
-        return Fixed::Free;
+        return None;
     }
-    let count = counted_u64(sheet, 105, 2, opcode, 1);
-    Fixed::Count(count)
+    Some(counted(sheet, 105, 2, opcode, 1))
 }
 
 pub fn mode_mask(sheet: &[u64], mode: u64) -> u64
     ensures { result ≡ mode_mask_in sheet.now mode }
 {
-    counted_u64(sheet, 16, 1, mode, 256)
+    counted(sheet, 16, 1, mode, 256)
 }
 
 pub fn contained_mask(sheet: &[u64], kind: u64) -> u64
     ensures { result ≡ contained_mask_in sheet.now kind }
 {
-    counted_u64(sheet, 16, 1, kind, 272)
+    counted(sheet, 16, 1, kind, 272)
 }
 
 pub fn byte_width(sheet: &[u64], kind: u64) -> u64
     ensures { result ≡ byte_width_in sheet.now kind }
 {
-    counted_u64(sheet, 16, 1, kind, 288)
+    counted(sheet, 16, 1, kind, 288)
 }
 
 // 1 where a tile is seen through a pointer attribute.
@@ -530,12 +650,12 @@ pub fn cut_counts(n: Counts) -> Counts
     ensures { result ≡ cut_counts n }
 {
     Counts {
-        types: cells::least(n.types, MAX_TYPES),
-        values: cells::least(n.values, MAX_VALUES),
-        operations: cells::least(n.operations, MAX_OPERATIONS),
-        attributes: cells::least(n.attributes, MAX_ATTRIBUTES),
-        blocks: cells::least(n.blocks, MAX_BLOCKS),
-        regions: cells::least(n.regions, MAX_REGIONS),
-        functions: cells::least(n.functions, MAX_FUNCTIONS),
+        types: n.types.min(MAX_TYPES),
+        values: n.values.min(MAX_VALUES),
+        operations: n.operations.min(MAX_OPERATIONS),
+        attributes: n.attributes.min(MAX_ATTRIBUTES),
+        blocks: n.blocks.min(MAX_BLOCKS),
+        regions: n.regions.min(MAX_REGIONS),
+        functions: n.functions.min(MAX_FUNCTIONS),
     }
 }
