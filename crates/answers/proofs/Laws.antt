@@ -3,7 +3,7 @@ use Prim.Native.Nat.{ℕ}
 use mathlib.Core.Path.{◌≡◌, sym, ap, ◌∙◌}
 use mathlib.Core.List.{List}
 use Rattle.tables.specs.Tables.{Tables, lent}
-use Rattle.tables.specs.declared.Answer.{Answer}
+use Rattle.tables.specs.Answer.{Answer}
 use Rattle.tables.specs.declared.Counts.{Counts}
 use Rattle.tables.specs.declared.Numbers.{Numbers}
 use Rattle.house.specs.State.{State}

@@ -1,11 +1,9 @@
 -- What an exported function takes and leaves: counts in a slice of seven, and the answer's three numbers in a slice, 0 0 0 for accepted.
-use Rattle.std.specs.Prelude.{ℕ, List, get_or, set}
-use Rattle.tables.specs.Answer.{numbers_of}
+use Rattle.std.specs.Prelude.{ℕ, List, get_or, set, Ok, Err}
+use Rattle.tables.specs.Answer.{numbers_of, Answer}
 use Rattle.tables.specs.declared.Counts.{Counts}
 use Rattle.tables.specs.declared.Target.{Target}
 use Rattle.tables.specs.declared.Numbers.{Numbers}
-use Rattle.tables.specs.declared.Answer.{Answer}
-use Rattle.tables.specs.declared.Answer.TheVariants.{Accepted, Refused}
 use Rattle.numbering.specs.declared.Numbered.{Numbered}
 use Rattle.numbering.specs.declared.Numbered.TheVariants.{Written, Refused as No}
 
@@ -28,8 +26,8 @@ abbrev pub none : Numbers
 none = record { code = 0; id = 0; detail = 0 }
 
 unfoldable pub told : Answer → Numbers
-told Accepted = none
-told (Refused r) = numbers_of r
+told (Ok _) = none
+told (Err r) = numbers_of r
 
 -- numbers that are written are accepted
 unfoldable pub told_of_numbers : Numbered → Numbers

@@ -39,12 +39,12 @@ fn answer_numbers(answer: Answer) -> Numbers
     ensures { result ≡ told answer }
 {
     match answer {
-        Answer::Accepted => Numbers {
+        Ok(()) => Numbers {
             code: 0,
             id: 0,
             detail: 0,
         },
-        Answer::Refused(why) => tables::numbers_of(why),
+        Err(why) => tables::numbers_of(why),
     }
 }
 

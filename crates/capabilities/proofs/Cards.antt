@@ -4,7 +4,7 @@ use mathlib.Core.Path.{◌≡◌, refl}
 use mathlib.Core.List.{List}
 use Rattle.tables.specs.Answer.{each, numbers_of, three}
 use Rattle.tables.specs.Tables.{Tables}
-use Rattle.tables.specs.declared.Answer.TheVariants.{Refused}
+use Rattle.std.specs.Prelude.{Err}
 use Rattle.tables.specs.declared.Refusal.TheVariants.{VersionLow}
 use Rattle.tables.specs.declared.Target.{Target}
 use Rattle.requirements.specs.Feature.{features, requirement_of}
@@ -16,7 +16,7 @@ use Rattle.capabilities.specs.Ask.{ask, operation_asks, capabilities}
 abbrev target : ℕ → ℕ → Target
 target version sm = record { version = version; sm = sm }
 
-pub under_13_2 : (x : Tables) (order : List ℕ) → capabilities (target 2 90) x order ≡ Refused (VersionLow 0 32)
+pub under_13_2 : (x : Tables) (order : List ℕ) → capabilities (target 2 90) x order ≡ Err (VersionLow 0 32)
 unfolding capabilities ask target_feature targets requirement_of features met_by
 under_13_2 x order = refl
 

@@ -3,10 +3,8 @@
 -- then of results." "version too low; architecture not met | operation, feature".
 use Rattle.std.specs.Prelude.{ℕ, cond, List, eqb, Option, Some, None, Result, Ok, Err, ⊤}
 use Rattle.tables.specs.Tables.{Tables, opcode, operands, result_types, attributes, value_type, type_form, type_kind, attribute_name, attribute_form, attribute_numbers}
-use Rattle.tables.specs.Answer.{and_then, each}
+use Rattle.tables.specs.Answer.{and_then, each, Answer}
 use Rattle.tables.specs.declared.Target.{Target}
-use Rattle.tables.specs.declared.Answer.{Answer}
-use Rattle.tables.specs.declared.Answer.TheVariants.{Accepted, Refused}
 use Rattle.tables.specs.declared.Refusal.TheVariants.{VersionLow, ArchitectureNot}
 use Rattle.requirements.specs.Feature.{requirement_of}
 use Rattle.requirements.specs.Met.{met_by}
@@ -19,12 +17,12 @@ use Rattle.requirements.specs.declared.Unmet.TheVariants as unmet
 
 -- what operation i's feature f says
 abbrev pub answered : ℕ → ℕ → Result ⊤ Unmet → Answer
-answered i f (Ok tt) = Accepted
-answered i f (Err unmet.VersionLow) = Refused (VersionLow i f)
-answered i f (Err unmet.ArchitectureNot) = Refused (ArchitectureNot i f)
+answered i f (Ok tt) = Ok tt
+answered i f (Err unmet.VersionLow) = Err (VersionLow i f)
+answered i f (Err unmet.ArchitectureNot) = Err (ArchitectureNot i f)
 
 unfoldable pub ask : Target → ℕ → Option ℕ → Answer
-ask g i None = Accepted
+ask g i None = Ok tt
 ask g i (Some f) = answered i f (met_by (requirement_of f) g.version g.sm)
 
 -- "A view's kind is its tensor's, a pointer tile's is its pointee's, pointer attribute or not. Each kind is judged on its own."; a token has none

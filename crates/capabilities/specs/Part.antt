@@ -1,8 +1,7 @@
 -- The questions that an operation is asked, each over the tables that it reads: the parts of `operation_asks`.
-use Rattle.std.specs.Prelude.{ℕ, ◌≡◌, List, [], get_or}
+use Rattle.std.specs.Prelude.{ℕ, ◌≡◌, List, [], get_or, Ok}
 use Rattle.tables.specs.Tables.{Tables, lent, value_type}
-use Rattle.tables.specs.declared.Answer.{Answer}
-use Rattle.tables.specs.declared.Answer.TheVariants.{Accepted}
+use Rattle.tables.specs.Answer.{Answer}
 use Rattle.tables.specs.declared.Counts.{Counts}
 use Rattle.tables.specs.declared.Target.{Target}
 use Rattle.requirements.specs.Kind.{kind_feature}
@@ -30,4 +29,4 @@ result_asks g x i = λ ty. ask g i (kind_asked x ty)
 
 -- what is marked of the kinds, once for a target: it has the feature of each kind that is marked
 abbrev pub Knows : Target → List ℕ → Type 0
-Knows g kinds = (k i : ℕ) → get_or kinds k 0 ≡ 1 → ask g i (kind_feature k) ≡ Accepted
+Knows g kinds = (k i : ℕ) → get_or kinds k 0 ≡ 1 → ask g i (kind_feature k) ≡ Ok tt

@@ -1,7 +1,7 @@
 // Codes 9 and 10: whether a target has what it asks for itself, and what each operation asks for.
 #![tactic(auto)]
 
-ghost use Rattle.std.specs.Prelude.{◌≡◌, []};
+ghost use Rattle.std.specs.Prelude.{◌≡◌, [], Ok};
 ghost use Rattle.tables.specs.Tables.{lent, attributes};
 ghost use Rattle.tables.specs.Answer.{each};
 ghost use Rattle.requirements.specs.Kind.{kind_feature};
@@ -19,11 +19,11 @@ pub fn ask(g: Target, operation: u64, asked: Option<u64>) -> Answer
     ensures { result ≡ ask g operation asked }
 {
     match asked {
-        None => Answer::Accepted,
+        None => Ok(()),
         Some(feature) => match requirements::requirement_met(feature, g.version, g.sm) {
-            Ok(()) => Answer::Accepted,
-            Err(Unmet::VersionLow) => Answer::Refused(Refusal::VersionLow { operation, feature }),
-            Err(Unmet::ArchitectureNot) => Answer::Refused(Refusal::ArchitectureNot {
+            Ok(()) => Ok(()),
+            Err(Unmet::VersionLow) => Err(Refusal::VersionLow { operation, feature }),
+            Err(Unmet::ArchitectureNot) => Err(Refusal::ArchitectureNot {
                 operation,
                 feature,
             }),
@@ -33,11 +33,11 @@ pub fn ask(g: Target, operation: u64, asked: Option<u64>) -> Answer
 
 // 1 where the target has the feature of a kind.
 fn known(g: Target, kind: u64) -> u64
-    ensures { result ≡ 1 → ask g 0 (kind_feature kind) ≡ Answer.Accepted }
+    ensures { result ≡ 1 → ask g 0 (kind_feature kind) ≡ Ok tt }
 {
     match ask(g, 0, requirements::scalar_requirement(kind)) {
-        Answer::Accepted => 1,
-        Answer::Refused(_) => 0,
+        Ok(()) => 1,
+        Err(_) => 0,
     }
 }
 
@@ -58,11 +58,11 @@ fn ask_kind(g: Target, t: &[u64], n: Counts, operation: u64, kinds: &[u64], id: 
     ensures { Knows g kinds.now → result ≡ ask g operation (kind_asked (tables_of_types t.now n) id) }
 {
     if tables::type_form(t, n, id) == 0 {
-        return Answer::Accepted;
+        return Ok(());
     }
     let kind = tables::type_kind(t, n, id);
     if cells::at(kinds, kind) == 1 {
-        return Answer::Accepted;
+        return Ok(());
     }
     ask(g, operation, requirements::scalar_requirement(kind))
 }
@@ -93,12 +93,10 @@ fn ask_attributes(g: Target, o: &[u32], a: &[u32], l: &[u64], n: Counts, operati
     let mut k = 0;
     while k < span.len {
         let asked = attribute_asked(o, a, l, n, operation, span.start + k);
-        if let Answer::Refused(why) = ask(g, operation, asked) {
-            return Answer::Refused(why);
-        }
+        ask(g, operation, asked)?;
         k += 1;
     }
-    Answer::Accepted
+    Ok(())
 }
 
 // The kinds of an operation's operands, in order.
@@ -116,12 +114,10 @@ fn ask_operands(
     let mut k = 0;
     while k < operands.len() {
         let id = tables::value_type(v, n, operands[k]);
-        if let Answer::Refused(why) = ask_kind(g, t, n, operation, kinds, id) {
-            return Answer::Refused(why);
-        }
+        ask_kind(g, t, n, operation, kinds, id)?;
         k += 1;
     }
-    Answer::Accepted
+    Ok(())
 }
 
 // The kinds of an operation's results, in order.
@@ -137,12 +133,10 @@ fn ask_results(
 {
     let mut k = 0;
     while k < types.len() {
-        if let Answer::Refused(why) = ask_kind(g, t, n, operation, kinds, types[k]) {
-            return Answer::Refused(why);
-        }
+        ask_kind(g, t, n, operation, kinds, types[k])?;
         k += 1;
     }
-    Answer::Accepted
+    Ok(())
 }
 
 // All that an operation asks for: its opcode, its attributes, the kinds of its operands, then of its results.
@@ -160,16 +154,10 @@ fn operation_asks(
     ensures { Knows g kinds.now → result ≡ operation_asks g (lent t.now v.now o.now a.now [] [] [] l.now n) operation }
 {
     let asked = requirements::opcode_requirement(tables::opcode(o, n, operation));
-    if let Answer::Refused(why) = ask(g, operation, asked) {
-        return Answer::Refused(why);
-    }
-    if let Answer::Refused(why) = ask_attributes(g, o, a, l, n, operation) {
-        return Answer::Refused(why);
-    }
+    ask(g, operation, asked)?;
+    ask_attributes(g, o, a, l, n, operation)?;
     let operands = tables::operands(o, l, n, operation);
-    if let Answer::Refused(why) = ask_operands(g, t, v, n, operation, kinds, operands) {
-        return Answer::Refused(why);
-    }
+    ask_operands(g, t, v, n, operation, kinds, operands)?;
     ask_results(
         g,
         t,
@@ -196,12 +184,10 @@ fn ask_operations(
 {
     let mut k = 0;
     while k < order.len() {
-        if let Answer::Refused(why) = operation_asks(g, t, v, o, a, l, n, kinds, order[k]) {
-            return Answer::Refused(why);
-        }
+        operation_asks(g, t, v, o, a, l, n, kinds, order[k])?;
         k += 1;
     }
-    Answer::Accepted
+    Ok(())
 }
 
 // The same with the kinds marked first.
@@ -235,8 +221,6 @@ pub fn check_capabilities(
 ) -> Answer
     ensures { result ≡ capabilities g (lent t.now v.now o.now a.now [] [] [] l.now n) order.now }
 {
-    if let Answer::Refused(why) = ask(g, 0, requirements::target_requirement(g.sm)) {
-        return Answer::Refused(why);
-    }
+    ask(g, 0, requirements::target_requirement(g.sm))?;
     ask_marked(g, t, v, o, a, l, n, order)
 }

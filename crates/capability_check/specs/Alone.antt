@@ -1,8 +1,7 @@
 -- Version and architecture called alone: "Each part called alone asks 1 to 4 first (16 before, if lent the target)."
 use Rattle.tables.specs.Tables.{Tables}
-use Rattle.tables.specs.Answer.{and_then}
+use Rattle.tables.specs.Answer.{and_then, Answer}
 use Rattle.tables.specs.declared.Target.{Target}
-use Rattle.tables.specs.declared.Answer.{Answer}
 use Rattle.walk.specs.Order.{order}
 use Rattle.table_checks.specs.Checks.{target_check, table_checks}
 use Rattle.capabilities.specs.Ask.{capabilities}

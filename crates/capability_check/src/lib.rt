@@ -23,9 +23,7 @@ pub fn check_alone(
 ) -> Answer
     ensures { result ≡ capabilities_alone g (lent t.now v.now o.now a.now b.now r.now f.now l.now n) }
 {
-    if let Answer::Refused(why) = table_checks::check_target(g) {
-        return Answer::Refused(why);
-    }
+    table_checks::check_target(g)?;
     let mut list = [0u64; 2048];
     // The claims are not asked for.
     let mut bases = [0u64; 0];
@@ -44,7 +42,7 @@ pub fn check_alone(
         &mut bases,
         &mut claims,
     ) {
-        Checked::Refused(why) => Answer::Refused(why),
+        Checked::Refused(why) => Err(why),
         Checked::Fine(m) => {
             let order = cells::entries(&list, Span { start: 0, len: m });
             capabilities::check_capabilities(g, t, v, o, a, l, n, order)

@@ -9,8 +9,8 @@ use mathlib.Core.List.{List, [], ◌∷◌, ◌++◌}
 use lib.ListN.{length, get_or, drop}
 use Rattle.cells.specs.Lists.{from, below, flat, mem}
 use Rattle.cells.proofs.Parts.{left_step, left_end}
-use Rattle.tables.specs.declared.Answer.{Answer}
-use Rattle.tables.specs.declared.Answer.TheVariants.{Accepted, Refused}
+use Rattle.tables.specs.Answer.{Answer}
+use Rattle.std.specs.Prelude.{Ok, Err}
 use Rattle.tables.specs.declared.Refusal.TheVariants.{NotVisible}
 use Rattle.values.specs.Claims.{number_of}
 use Rattle.nesting.specs.Live.{to_list}
@@ -23,10 +23,10 @@ module _ (live : List ℕ) (i : ℕ) (vs : List ℕ) (k : ℕ) (a : Answer) (inv
   pub judge_more : k < length vs → mem (get_or vs k 0) live ≡ true → judge live i (k + 1) (drop (k + 1) vs) ≡ a
   judge_more h m = rw (add-one k) (rw (left_step vs k 0 h, m, add-one k) at inv)
 
-  pub judge_hidden : k < length vs → mem (get_or vs k 0) live ≡ false → Refused (NotVisible i k) ≡ a
+  pub judge_hidden : k < length vs → mem (get_or vs k 0) live ≡ false → Err (NotVisible i k) ≡ a
   judge_hidden h m = rw (left_step vs k 0 h, m) at inv
 
-  pub judge_end : length vs ≤ k → Accepted ≡ a
+  pub judge_end : length vs ≤ k → Ok tt ≡ a
   judge_end h = rw (left_end vs k 0 h) at inv
 
 -- ---- results

@@ -8,7 +8,7 @@ use Rattle.cells.specs.Lists.{below, count}
 use Rattle.cells.proofs.Rows.{lt_or_ge}
 use Rattle.tables.specs.Sizes.{max_values}
 use Rattle.tables.specs.Tables.{Tables, arguments}
-use Rattle.tables.specs.declared.Answer.TheVariants.{Accepted, Refused}
+use Rattle.std.specs.Prelude.{Ok, Err}
 use Rattle.tables.specs.declared.Refusal.{Refusal}
 use Rattle.table_checks.specs.Checks.{table_checks}
 use Rattle.table_checks.proofs.Laws.{passes_1, passes_4}
@@ -21,7 +21,7 @@ use Rattle.scope.proofs.Laws.{grows}
 use Rattle.dominance.specs.Alone.{dominance_alone}
 use Rattle.dominance.specs.Walk.{whole_judged}
 
-module _ (x : Tables) (e : table_checks x ≡ Accepted) where
+module _ (x : Tables) (e : table_checks x ≡ Ok tt) where
   -- a stack with an entry for each value
   pub room : x.counts.values ≤ length {A = ℕ} (replicate max_values 0)
   room = omega (arith, length-replicate {A = ℕ} max_values 0, (passes_1 x e).values_fit)
@@ -50,10 +50,10 @@ module _ (x : Tables) (e : table_checks x ≡ Accepted) where
 
 -- ---- called alone
 
-pub alone_goes : (x : Tables) → table_checks x ≡ Accepted → dominance x ≡ dominance_alone x
+pub alone_goes : (x : Tables) → table_checks x ≡ Ok tt → dominance x ≡ dominance_alone x
 unfolding dominance_alone
 alone_goes x e = rw e
 
-pub alone_stops : (x : Tables) {why : Refusal} → table_checks x ≡ Refused why → Refused why ≡ dominance_alone x
+pub alone_stops : (x : Tables) {why : Refusal} → table_checks x ≡ Err why → Err why ≡ dominance_alone x
 unfolding dominance_alone
 alone_stops x e = rw e

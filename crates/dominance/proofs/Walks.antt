@@ -7,10 +7,9 @@ use mathlib.Core.List.{List, [], ◌∷◌}
 use lib.ListN.{length, get_or, drop}
 use Rattle.cells.proofs.Parts.{left_step, left_end}
 use Rattle.tables.specs.Tables.{Tables, lent, functions, regions, blocks, operations, arguments}
-use Rattle.tables.specs.Answer.{and_then}
+use Rattle.tables.specs.Answer.{and_then, Answer}
 use Rattle.tables.specs.declared.Counts.{Counts}
-use Rattle.tables.specs.declared.Answer.{Answer}
-use Rattle.tables.specs.declared.Answer.TheVariants.{Accepted, Refused}
+use Rattle.std.specs.Prelude.{Ok, Err}
 use Rattle.tables.specs.declared.Refusal.{Refusal}
 use Rattle.nesting.specs.Shape.{visit}
 use Rattle.nesting.specs.Live.{valued, result_values}
@@ -26,7 +25,7 @@ use Rattle.dominance.specs.declared.Walked.TheVariants.{Fine, Refused as refused
 -- ---- ids visited one by one: f judges each, and g is what is live after it
 
 abbrev pub fold_ids : (List ℕ → ℕ → Answer) → (List ℕ → ℕ → List ℕ) → List ℕ → List ℕ → Answer
-fold_ids f g live [] = Accepted
+fold_ids f g live [] = Ok tt
 fold_ids f g live (x ∷ xs) = and_then (f live x) (fold_ids f g (g live x) xs)
 
 abbrev pub grown : (List ℕ → ℕ → List ℕ) → List ℕ → List ℕ → List ℕ
@@ -70,7 +69,7 @@ stands_is {nv = nv} {d = d} {s = s} {live = live} v e = subst (λ (z : Walked). 
 
 module _ {f : ℕ → List ℕ → ℕ → Answer} {depth : ℕ} {g : List ℕ → ℕ → List ℕ} {xs live : List ℕ} {nv : ℕ} {d s : List ℕ} {next i : ℕ}
     (inv : Going f depth g xs live nv d s next i) where
-  pub going_said : length xs ≤ i → Accepted ≡ fold_ids (f depth) g live xs
+  pub going_said : length xs ≤ i → Ok tt ≡ fold_ids (f depth) g live xs
   going_said h = rw (left_end xs i 0 h) at inv.said
 
   pub going_live : length xs ≤ i → Shows nv d s next (grown g live xs)
@@ -82,14 +81,14 @@ module _ {f : ℕ → List ℕ → ℕ → Answer} {depth : ℕ} {g : List ℕ �
     here : told w ≡ f depth inv.now_live (get_or xs i 0)
     here = v.answer ∙ ap (λ (z : ℕ). f z inv.now_live (get_or xs i 0)) e
 
-    pub going_stop : {why : Refusal} → w ≡ refused why → Refused why ≡ fold_ids (f depth) g live xs
+    pub going_stop : {why : Refusal} → w ≡ refused why → Err why ≡ fold_ids (f depth) g live xs
     going_stop {why} q =
-        let z : f depth inv.now_live (get_or xs i 0) ≡ Refused why = sym here ∙ ap told q in
+        let z : f depth inv.now_live (get_or xs i 0) ≡ Err why = sym here ∙ ap told q in
         rw (left_step xs i 0 h, z) at inv.said
 
     pub going_more : {u : Scope} → w ≡ Fine u → Going f depth g xs live nv d' s' u.next (i + 1)
     going_more q =
-        let z : f depth inv.now_live (get_or xs i 0) ≡ Accepted = sym here ∙ ap told q in
+        let z : f depth inv.now_live (get_or xs i 0) ≡ (Ok tt) = sym here ∙ ap told q in
         record {
           now_live = g inv.now_live (get_or xs i 0);
           stack = stands_is v q;
@@ -98,7 +97,7 @@ module _ {f : ℕ → List ℕ → ℕ → Answer} {depth : ℕ} {g : List ℕ �
         }
 
 -- a refusal, with any arrays
-pub stopped : {why : Refusal} {nv : ℕ} {d s live : List ℕ} {a : Answer} → Refused why ≡ a → Went (refused why) nv d s live a
+pub stopped : {why : Refusal} {nv : ℕ} {d s live : List ℕ} {a : Answer} → Err why ≡ a → Went (refused why) nv d s live a
 stopped e = record { answer = e; stands = tt }
 
 -- ---- the lists as the definitions have them
@@ -137,22 +136,22 @@ module _ (x : Tables) (d : ℕ) (live : List ℕ) where
       let q : suc (d - 1) ≡ d = omega (arith, h) in
       rw (e, ej) (all_is (block_judged x (d - 1)) x live (blocks x k)) ∙ ap (λ (z : ℕ). region_judged x z live k) q
 
-  pub region_none : (k : ℕ) → d ≡ 0 → Accepted ≡ region_judged x d live k
+  pub region_none : (k : ℕ) → d ≡ 0 → Ok tt ≡ region_judged x d live k
   unfolding fold_region
   region_none k e = rw e
 
   module _ (i : ℕ) {w : Walked} {nv : ℕ} {d₁ s₁ l₁ : List ℕ} (v : Went w nv d₁ s₁ l₁ (judged x (visit i live))) where
-    pub operation_stops : {why : Refusal} → w ≡ refused why → Refused why ≡ operation_judged x d live i
+    pub operation_stops : {why : Refusal} → w ≡ refused why → Err why ≡ operation_judged x d live i
     unfolding fold_operation
     operation_stops {why} e =
-        let q : judged x (visit i live) ≡ Refused why = sym v.answer ∙ ap told e in
+        let q : judged x (visit i live) ≡ Err why = sym v.answer ∙ ap told e in
         rw q
 
     pub operation_goes : {u : Scope} {ks : List ℕ} → w ≡ Fine u → u.depth ≡ d → ks ≡ regions x i
         → regions_judged x u.depth (after x live i) ks ≡ operation_judged x d live i
     unfolding fold_operation valued
     operation_goes e ed ek =
-        let q : judged x (visit i live) ≡ Accepted = sym v.answer ∙ ap told e in
+        let q : judged x (visit i live) ≡ (Ok tt) = sym v.answer ∙ ap told e in
         rw (q, ed, ek)
 
 -- ---- rolled back
@@ -164,13 +163,13 @@ back_to {nv = nv} {d = d} {s = s} {live₀ = live₀} e h p g = subst (λ (z : S
 -- ---- the functions, i of them passed
 
 module _ (f : ℕ → Answer) (xs : List ℕ) (i : ℕ) (a : Answer) (inv : all answers f (drop i xs) ≡ a) where
-  pub all_more : i < length xs → f (get_or xs i 0) ≡ Accepted → all answers f (drop (i + 1) xs) ≡ a
+  pub all_more : i < length xs → f (get_or xs i 0) ≡ Ok tt → all answers f (drop (i + 1) xs) ≡ a
   all_more h e = rw (left_step xs i 0 h, e) at inv
 
-  pub all_stop : {why : Refusal} → i < length xs → f (get_or xs i 0) ≡ Refused why → Refused why ≡ a
+  pub all_stop : {why : Refusal} → i < length xs → f (get_or xs i 0) ≡ Err why → Err why ≡ a
   all_stop h e = rw (left_step xs i 0 h, e) at inv
 
-  pub all_end : length xs ≤ i → Accepted ≡ a
+  pub all_end : length xs ≤ i → Ok tt ≡ a
   all_end h = rw (left_end xs i 0 h) at inv
 
 pub whole_is : (x : Tables) → all answers (function_judged x) (functions x) ≡ whole_judged x

@@ -1,10 +1,9 @@
 -- The walk as the code makes it, on the stack of live values: what each visit answers, and what is live after it.
-use Rattle.std.specs.Prelude.{ℕ, ◌+◌, ◌<◌, ◌≡◌, List, [], length, get_or}
+use Rattle.std.specs.Prelude.{ℕ, ◌+◌, ◌<◌, ◌≡◌, List, [], length, get_or, Ok, Err}
 use Rattle.tables.specs.Sizes.{max_depth}
 use Rattle.tables.specs.Tables.{Tables, regions, result_types}
 use Rattle.tables.specs.Value.{value_of}
-use Rattle.tables.specs.declared.Answer.{Answer}
-use Rattle.tables.specs.declared.Answer.TheVariants.{Accepted, Refused}
+use Rattle.tables.specs.Answer.{Answer}
 use Rattle.values.specs.Claims.{number_of}
 use Rattle.nesting.specs.Live.{result_values, valued}
 use Rattle.nesting.specs.Dominance.{judged}
@@ -46,8 +45,8 @@ abbrev pub after : Tables → List ℕ → ℕ → List ℕ
 after x live i = see_all x.counts.values live (result_values x i)
 
 abbrev pub told : Walked → Answer
-told (Fine s) = Accepted
-told (refused r) = Refused r
+told (Fine s) = Ok tt
+told (refused r) = Err r
 
 -- a scope that is handed back stands at depth d
 abbrev pub Level : Walked → ℕ → Type 0

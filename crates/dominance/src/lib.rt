@@ -1,7 +1,7 @@
 // Code 5: the first operand in walk order that is not visible where it is used.
 #![tactic(auto)]
 
-ghost use Rattle.std.specs.Prelude.{◌≡◌, List, ℕ, ◌≤◌, length};
+ghost use Rattle.std.specs.Prelude.{◌≡◌, List, ℕ, ◌≤◌, length, Ok};
 ghost use Rattle.std.proofs.Math.Option.{Option};
 ghost use Rattle.tables.specs.Tables.{lent};
 ghost use Rattle.table_checks.specs.Checks.{table_checks};
@@ -40,14 +40,14 @@ fn judge_operands(
     let mut k = 0;
     while k < operands.len() {
         if !scope::is_live(dense, sparse, next, operands[k]) {
-            return Answer::Refused(Refusal::NotVisible {
+            return Err(Refusal::NotVisible {
                 operation,
                 operand: k as u64,
             });
         }
         k += 1;
     }
-    Answer::Accepted
+    Ok(())
 }
 
 // The value of a declared result, by its number; 0 is none.
@@ -104,7 +104,7 @@ fn open_operation(
 {
     let operands = tables::operands(o, l, n, id);
     let next = scope.next;
-    if let Answer::Refused(why) = judge_operands(dense, sparse, next, id, operands) {
+    if let Err(why) = judge_operands(dense, sparse, next, id, operands) {
         return Walked::Refused(why);
     }
     Walked::Fine(add_results(o, l, n, bases, claims, dense, sparse, scope, id))
@@ -277,8 +277,8 @@ fn visit_function(
         depth: tables::MAX_DEPTH,
     };
     match visit_regions(o, b, r, l, n, bases, claims, dense, sparse, start, regions) {
-        Walked::Fine(_) => Answer::Accepted,
-        Walked::Refused(why) => Answer::Refused(why),
+        Walked::Fine(_) => Ok(()),
+        Walked::Refused(why) => Err(why),
     }
 }
 
@@ -301,14 +301,12 @@ fn visit_functions(
     let mut i = 0;
     while i < count {
         let id = tables::function(f, n, i);
-        if let Answer::Refused(why) = visit_function(
+        visit_function(
             o, b, r, l, n, bases, claims, dense, sparse, id,
-        ) {
-            return Answer::Refused(why);
-        }
+        )?;
         i += 1;
     }
-    Answer::Accepted
+    Ok(())
 }
 
 // The walk over few values, where 1 to 4 passed and the cells hold the claims: a small stack is soon cleared.
@@ -322,7 +320,7 @@ fn walk_few(
     bases: &[u64],
     claims: &[u64],
 ) -> Answer
-    ensures { (t v a : List ℕ) → let x = lent t v o.now a b.now r.now f.now l.now n in table_checks x ≡ Answer.Accepted → Filled x bases.now claims.now → n.values ≤ 512 → result ≡ visibleAll x }
+    ensures { (t v a : List ℕ) → let x = lent t v o.now a b.now r.now f.now l.now n in table_checks x ≡ Ok tt → Filled x bases.now claims.now → n.values ≤ 512 → result ≡ visibleAll x }
 {
     let mut dense = [0u64; 512];
     let mut sparse = [0u64; 512];
@@ -340,7 +338,7 @@ pub fn after_checks(
     bases: &[u64],
     claims: &[u64],
 ) -> Answer
-    ensures { (t v a : List ℕ) → let x = lent t v o.now a b.now r.now f.now l.now n in table_checks x ≡ Answer.Accepted → Filled x bases.now claims.now → result ≡ visibleAll x }
+    ensures { (t v a : List ℕ) → let x = lent t v o.now a b.now r.now f.now l.now n in table_checks x ≡ Ok tt → Filled x bases.now claims.now → result ≡ visibleAll x }
 {
     if n.values <= FEW_VALUES {
         return walk_few(o, b, r, f, l, n, bases, claims);
@@ -383,6 +381,6 @@ pub fn dominance(
         &mut claims,
     ) {
         Checked::Fine(_) => after_checks(o, b, r, f, l, n, &bases, &claims),
-        Checked::Refused(why) => Answer::Refused(why),
+        Checked::Refused(why) => Err(why),
     }
 }

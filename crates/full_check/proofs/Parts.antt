@@ -4,10 +4,9 @@ use native.Mathlib.Omega.{arith}
 use mathlib.Core.Path.{◌≡◌, refl, sym, ap, ◌∙◌}
 use mathlib.Core.List.{List, []}
 use Rattle.tables.specs.Tables.{Tables, lent}
-use Rattle.tables.specs.Answer.{and_then}
+use Rattle.tables.specs.Answer.{and_then, Answer}
 use Rattle.tables.specs.declared.Target.{Target}
-use Rattle.tables.specs.declared.Answer.{Answer}
-use Rattle.tables.specs.declared.Answer.TheVariants.{Accepted, Refused as No}
+use Rattle.std.specs.Prelude.{Ok, Err}
 use Rattle.tables.specs.declared.Refusal.{Refusal}
 use Rattle.walk.specs.Order.{order}
 use Rattle.table_checks.specs.Checks.{target_check, sheet_checks}
@@ -25,7 +24,7 @@ use Rattle.full_check.specs.Full.{refusal_of, parts, refusals, full_check}
 -- ---- what numbering answered over lists of its own
 
 module _ (ns all each held₁ held₂ : List ℕ) {w : Numbered} where
-  pub numbering_stops : (a : Listing ℕ) {why : Refusal} → outcome w all each ≡ filled_by a ns held₁ held₂ → w ≡ Refused why → refusal_of a ≡ No why
+  pub numbering_stops : (a : Listing ℕ) {why : Refusal} → outcome w all each ≡ filled_by a ns held₁ held₂ → w ≡ Refused why → refusal_of a ≡ Err why
   numbering_stops (fine zs) {why} e ew =
       let q : Refused why ≡ Written _ = sym ew ∙ ap (λ (o : Outcome). o.answer) e in
       absurd (let z : ◌≡◌ {A = ℕ} 0 1 = cc in omega arith)
@@ -34,7 +33,7 @@ module _ (ns all each held₁ held₂ : List ℕ) {w : Numbered} where
       let s : why ≡ r = cc in
       rw s
 
-  pub numbering_goes : (a : Listing ℕ) {m : ℕ} → outcome w all each ≡ filled_by a ns held₁ held₂ → w ≡ Written m → refusal_of a ≡ Accepted
+  pub numbering_goes : (a : Listing ℕ) {m : ℕ} → outcome w all each ≡ filled_by a ns held₁ held₂ → w ≡ Written m → refusal_of a ≡ Ok tt
   numbering_goes (fine zs) e ew = refl
   numbering_goes (refused r) {m} e ew =
       let q : Written m ≡ Refused r = sym ew ∙ ap (λ (o : Outcome). o.answer) e in
@@ -59,38 +58,38 @@ module _ (g : Target) (sheet : List ℕ) (x : Tables) (is : List ℕ) (e : is �
 -- ---- in turn
 
 module _ (g : Target) (sheet : List ℕ) (x : Tables) (rest : Outcome) (numbers lengths : List ℕ) where
-  pub dominance_stops : {why : Refusal} → dominance x ≡ No why → outcome (Refused why) numbers lengths ≡ after_checks (parts g sheet x) rest numbers lengths
+  pub dominance_stops : {why : Refusal} → dominance x ≡ Err why → outcome (Refused why) numbers lengths ≡ after_checks (parts g sheet x) rest numbers lengths
   unfolding parts
   dominance_stops e = rw e
 
-  pub numbers_stop : {why : Refusal} → dominance x ≡ Accepted → refusal_of (numbering sheet x) ≡ No why
+  pub numbers_stop : {why : Refusal} → dominance x ≡ Ok tt → refusal_of (numbering sheet x) ≡ Err why
       → outcome (Refused why) numbers lengths ≡ after_checks (parts g sheet x) rest numbers lengths
   unfolding parts
   numbers_stop d e = rw (d, e)
 
-  module _ (d : dominance x ≡ Accepted) (e : refusal_of (numbering sheet x) ≡ Accepted) where
-    pub over_stops : {why : Refusal} → and_then (capabilities g x (order x)) (rules g.version sheet x (order x)) ≡ No why
+  module _ (d : dominance x ≡ Ok tt) (e : refusal_of (numbering sheet x) ≡ Ok tt) where
+    pub over_stops : {why : Refusal} → and_then (capabilities g x (order x)) (rules g.version sheet x (order x)) ≡ Err why
         → outcome (Refused why) numbers lengths ≡ after_checks (parts g sheet x) rest numbers lengths
     unfolding parts
     over_stops q = rw (d, e, q)
 
-    pub all_pass : and_then (capabilities g x (order x)) (rules g.version sheet x (order x)) ≡ Accepted → rest ≡ after_checks (parts g sheet x) rest numbers lengths
+    pub all_pass : and_then (capabilities g x (order x)) (rules g.version sheet x (order x)) ≡ Ok tt → rest ≡ after_checks (parts g sheet x) rest numbers lengths
     unfolding parts
     all_pass q = rw (d, e, q)
 
 -- ---- the whole
 
 module _ (g : Target) (sheet : List ℕ) (x : Tables) (numbers lengths : List ℕ) where
-  pub target_stops : {why : Refusal} → target_check g ≡ No why → outcome (Refused why) numbers lengths ≡ full_check g sheet x numbers lengths
+  pub target_stops : {why : Refusal} → target_check g ≡ Err why → outcome (Refused why) numbers lengths ≡ full_check g sheet x numbers lengths
   unfolding full_check refusals
   target_stops e = rw e
 
-  pub checks_stop : {why : Refusal} → target_check g ≡ Accepted → sheet_checks sheet x ≡ No why
+  pub checks_stop : {why : Refusal} → target_check g ≡ Ok tt → sheet_checks sheet x ≡ Err why
       → outcome (Refused why) numbers lengths ≡ full_check g sheet x numbers lengths
   unfolding full_check refusals
   checks_stop t e = rw (t, e)
 
-  pub checks_pass : target_check g ≡ Accepted → sheet_checks sheet x ≡ Accepted
+  pub checks_pass : target_check g ≡ Ok tt → sheet_checks sheet x ≡ Ok tt
       → after_checks (parts g sheet x) (handed (numbering sheet x) (sizes x) numbers lengths) numbers lengths ≡ full_check g sheet x numbers lengths
   unfolding full_check refusals
   checks_pass t e = rw (t, e)

@@ -1,11 +1,9 @@
 -- The check that runs all. "The full check over tables asks 16, 1, 2, 3, 4 in turn; then all of dominance, of numbering, of requirements, of
 -- operation rules; 13 last."
-use Rattle.std.specs.Prelude.{ℕ, List}
+use Rattle.std.specs.Prelude.{ℕ, List, Ok, Err}
 use Rattle.tables.specs.Tables.{Tables}
-use Rattle.tables.specs.Answer.{and_then}
+use Rattle.tables.specs.Answer.{and_then, Answer}
 use Rattle.tables.specs.declared.Target.{Target}
-use Rattle.tables.specs.declared.Answer.{Answer}
-use Rattle.tables.specs.declared.Answer.TheVariants.{Accepted, Refused}
 use Rattle.walk.specs.Order.{order}
 use Rattle.table_checks.specs.Checks.{target_check, sheet_checks}
 use Rattle.nesting.specs.Dominance.{dominance}
@@ -16,8 +14,8 @@ use Rattle.rules.specs.Operation.{rules}
 
 -- numbering's own refusal, where it has one
 abbrev pub refusal_of : Listing ℕ → Answer
-refusal_of (fine zs) = Accepted
-refusal_of (refused r) = Refused r
+refusal_of (fine zs) = Ok tt
+refusal_of (refused r) = Err r
 
 -- the parts after the table checks, in turn
 unfoldable pub parts : Target → List ℕ → Tables → Answer

@@ -1,7 +1,7 @@
 // The check that runs all, over tables: the table checks once, then each part in turn, and the number list written on acceptance only.
 #![tactic(auto)]
 
-ghost use Rattle.std.specs.Prelude.{◌≡◌, List, []};
+ghost use Rattle.std.specs.Prelude.{◌≡◌, List, [], Ok};
 ghost use Rattle.tables.specs.Tables.{lent};
 ghost use Rattle.tables.specs.Answer.{and_then};
 ghost use Rattle.values.specs.Claims.{Filled};
@@ -32,9 +32,7 @@ fn over_operations(
 ) -> Answer
     ensures { let x = lent t.now v.now o.now a.now [] [] [] l.now n in result ≡ and_then (capabilities g x order.now) (rules g.version sheet.now x order.now) }
 {
-    if let Answer::Refused(why) = capabilities::check_capabilities(g, t, v, o, a, l, n, order) {
-        return Answer::Refused(why);
-    }
+    capabilities::check_capabilities(g, t, v, o, a, l, n, order)?;
     rules::check_rules(g.version, t, v, o, a, l, sheet, n, order)
 }
 
@@ -57,9 +55,9 @@ fn after_checks(
     numbers: &mut [u64],
     lengths: &mut [u64],
 ) -> Numbered
-    ensures { let x = lent t.now v.now o.now a.now b.now r.now f.now l.now n in table_checks x ≡ Answer.Accepted → order.now ≡ order_of x → Filled x bases.now claims.now → outcome result numbers.new lengths.new ≡ after_checks (parts g sheet.now x) (handed (numbers_of sheet.now x) (sizes x) numbers.old lengths.old) numbers.old lengths.old }
+    ensures { let x = lent t.now v.now o.now a.now b.now r.now f.now l.now n in table_checks x ≡ Ok tt → order.now ≡ order_of x → Filled x bases.now claims.now → outcome result numbers.new lengths.new ≡ after_checks (parts g sheet.now x) (handed (numbers_of sheet.now x) (sizes x) numbers.old lengths.old) numbers.old lengths.old }
 {
-    if let Answer::Refused(why) = dominance::after_checks(o, b, r, f, l, n, bases, claims) {
+    if let Err(why) = dominance::after_checks(o, b, r, f, l, n, bases, claims) {
         return Numbered::Refused(why);
     }
     let mut all = [0u64; 8192];
@@ -67,7 +65,7 @@ fn after_checks(
     match numbering::after_checks(o, b, r, f, l, n, sheet, bases, claims, &mut all, &mut each) {
         Numbered::Refused(why) => Numbered::Refused(why),
         Numbered::Written { count } => {
-            if let Answer::Refused(why) = over_operations(g, t, v, o, a, l, n, sheet, order) {
+            if let Err(why) = over_operations(g, t, v, o, a, l, n, sheet, order) {
                 return Numbered::Refused(why);
             }
             numbering::hand_over(&all, count, &each, n.functions, numbers, lengths)
@@ -93,7 +91,7 @@ pub fn check(
 ) -> Numbered
     ensures { outcome result numbers.new lengths.new ≡ full_check g sheet.now (lent t.now v.now o.now a.now b.now r.now f.now l.now n) numbers.old lengths.old }
 {
-    if let Answer::Refused(why) = table_checks::check_target(g) {
+    if let Err(why) = table_checks::check_target(g) {
         return Numbered::Refused(why);
     }
     let mut list = [0u64; 2048];

@@ -13,7 +13,7 @@ use Rattle.lines.specs.Line.{HeaderRow}
 use Rattle.lines.specs.Answer.{header_of}
 use Rattle.lines.specs.declared.HeaderLine.{HeaderLine}
 use Rattle.lines.specs.declared.HeaderLine.TheVariants.{Row as Header, Bad as BadHeader}
-use Rattle.tables.specs.declared.Answer.TheVariants.{Accepted}
+use Rattle.std.specs.Prelude.{Ok}
 use Rattle.tables.specs.declared.Refusal.TheVariants.{OutOfRange, NotInForm}
 use Rattle.house.specs.declared.Reading.{Reading}
 use Rattle.stores.specs.declared.Step.{Step}
@@ -144,7 +144,7 @@ module _ (fs : List (List ℕ)) (phase k : ℕ) (p : List ℕ) (ek : k ≡ tag_n
 
 abbrev reading : ℕ → ℕ → ℕ → ℕ → ℕ → ℕ → Counts → Reading
 reading phase lines end entries version sm n =
-    record { phase = phase; lines = lines; bytes = end; entries = entries; version = version; sm = sm; counts = n; answer = Accepted }
+    record { phase = phase; lines = lines; bytes = end; entries = entries; version = version; sm = sm; counts = n; answer = (Ok tt) }
 
 module _ (s : Reading) (k end : ℕ) (step : Step) where
   pub advance_bad : (field line : ℕ) (r : Reading) → r ≡ refusing (NotInForm line field) → line ≡ next s.lines → step ≡ Bad field → r ≡ advance_of s k end step

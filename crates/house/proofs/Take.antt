@@ -12,8 +12,8 @@ use borrow.Author.Tests.{lt-ltb, ltb-true, ltb-false}
 use Rattle.fields.specs.Cut.{split, nth}
 use Rattle.tables.specs.Tables.{Tables, lent}
 use Rattle.tables.specs.declared.Counts.{Counts}
-use Rattle.tables.specs.declared.Answer.{Answer}
-use Rattle.tables.specs.declared.Answer.TheVariants.{Accepted, Refused}
+use Rattle.tables.specs.Answer.{Answer}
+use Rattle.std.specs.Prelude.{Ok, Err}
 use Rattle.tables.specs.declared.Refusal.{Refusal}
 use Rattle.tables.specs.declared.Refusal.TheVariants.{OutOfRange, NotInForm}
 use Rattle.lines.specs.Field.{Read, says, bad}
@@ -39,7 +39,7 @@ module _ (s s' : Reading) (x x' : Tables) where
   pub settled_refused : (q : Refusal) → s' ≡ refusing q → zeroed x' ≡ zeroed x → settled (state_of s' x') ≡ refuse q (state_of s x)
   settled_refused q e z =
       ap (λ (y : Reading). settled (state_of y x')) e
-      ∙ ap (λ (y : Tables). record { phase = 0; lines = 0; bytes = 0; entries = 0; version = 0; sm = 0; tables = y; answer = Refused q }) z
+      ∙ ap (λ (y : Tables). record { phase = 0; lines = 0; bytes = 0; entries = 0; version = 0; sm = 0; tables = y; answer = Err q }) z
 
   module _ (k end : ℕ) where
     pub settled_bad : (field : ℕ) → s' ≡ advance_of s k end (Bad field) → s.lines < 2 ^ 32 → zeroed x' ≡ zeroed x
@@ -65,7 +65,7 @@ module _ (s s' : Reading) (x x' : Tables) where
       where
         at : ℕ → ℕ → Counts → Reading
         at line entries n =
-            record { phase = phase_of k; lines = line; bytes = end; entries = entries; version = s.version; sm = s.sm; counts = n; answer = Accepted }
+            record { phase = phase_of k; lines = line; bytes = end; entries = entries; version = s.version; sm = s.sm; counts = n; answer = (Ok tt) }
 
 both_true : (t u : Bool) → t && u ≡ true → t ≡ true
 both_true true u e = refl
@@ -367,7 +367,7 @@ took_header s s' end x fs h e = by (header_line fs) e
         settled_refused s s' x x (NotInForm (suc s.lines) k) (q ∙ ap (λ (n : ℕ). refusing (NotInForm n k)) (next_is s.lines h)) refl
     by (says w) q =
         ap (λ (y : Reading). settled (state_of y x)) q
-        ∙ ap (λ (n : ℕ). settled (state_of (record { phase = 1; lines = n; bytes = end; entries = s.entries; version = w.version; sm = w.sm; counts = s.counts; answer = Accepted }) x)) (next_is s.lines h)
+        ∙ ap (λ (n : ℕ). settled (state_of (record { phase = 1; lines = n; bytes = end; entries = s.entries; version = w.version; sm = w.sm; counts = s.counts; answer = (Ok tt) }) x)) (next_is s.lines h)
 
 -- ---- the kind of a line says where it goes
 module _ (s : State) (end : ℕ) (fs : List (List ℕ)) (phase : ℕ) where
@@ -499,15 +499,15 @@ module _ (s : Reading) (x : Tables) (line : List ℕ) (far : Bool)
 
 -- ---- a refusal zeroes the tables, and nothing more is taken after one
 module _ (s : Reading) (x : Tables) where
-  pub settle_kept : s.answer ≡ Accepted → state_of s x ≡ settled (state_of s x)
+  pub settle_kept : s.answer ≡ Ok tt → state_of s x ≡ settled (state_of s x)
   settle_kept h = sym (ap (λ (q : Answer). settled_by q (state_of s x)) h)
 
-  pub settle_refused : (q : Refusal) (s' : Reading) → s.answer ≡ Refused q → s' ≡ refusing q → (t v o a b r f l : List ℕ)
+  pub settle_refused : (q : Refusal) (s' : Reading) → s.answer ≡ Err q → s' ≡ refusing q → (t v o a b r f l : List ℕ)
       → t ≡ zeros x.t → v ≡ zeros x.v → o ≡ zeros x.o → a ≡ zeros x.a → b ≡ zeros x.b → r ≡ zeros x.r → f ≡ zeros x.f
       → l ≡ zeros x.l → state_of s' (lent t v o a b r f l no_counts) ≡ settled (state_of s x)
   settle_refused q s' h e t v o a b r f l et ev eo ea eb er ef el =
       ap (λ (y : Reading). state_of y (lent t v o a b r f l no_counts)) e
-      ∙ ap (λ (y : Tables). record { phase = 0; lines = 0; bytes = 0; entries = 0; version = 0; sm = 0; tables = y; answer = Refused q })
+      ∙ ap (λ (y : Tables). record { phase = 0; lines = 0; bytes = 0; entries = 0; version = 0; sm = 0; tables = y; answer = Err q })
       (all t v o a b r f l et ev eo ea eb er ef el)
       ∙ sym (ap (λ (y : Answer). settled_by y (state_of s x)) h)
     where
@@ -516,11 +516,11 @@ module _ (s : Reading) (x : Tables) where
       all t v o a b r f l et ev eo ea eb er ef el = rw (et, ev, eo, ea, eb, er, ef, el)
 
   module _ (line : List ℕ) where
-    pub line_kept : (q : Refusal) → s.answer ≡ Refused q → state_of s x ≡ line_of (state_of s x) line
+    pub line_kept : (q : Refusal) → s.answer ≡ Err q → state_of s x ≡ line_of (state_of s x) line
     unfolding line_of
     line_kept q h = sym (ap (λ (y : Answer). onward y (state_of s x) (judged (state_of s x) line)) h)
 
-    pub line_onward : s.answer ≡ Accepted → judged (state_of s x) line ≡ line_of (state_of s x) line
+    pub line_onward : s.answer ≡ Ok tt → judged (state_of s x) line ≡ line_of (state_of s x) line
     unfolding line_of
     line_onward h = sym (ap (λ (y : Answer). onward y (state_of s x) (judged (state_of s x) line)) h)
 

@@ -2,15 +2,14 @@
 -- line out of order or a missing last LF; an empty text is 15 with 1, 0. A line reaching past byte 65,536 is 1 with 0, 0 before its other
 -- faults; a line without field faults that passes a table's size, rank 8 or the list entries (absent ones count, dims do not) is 1 with that
 -- table and entry." What follows the last LF, and an empty text, are in crate `module_text`.
-use Rattle.std.specs.Prelude.{ℕ, suc, ◌+◌, ◌-◌, ◌*◌, Bool, true, false, ◌&&◌, ◌||◌, cond, List, ◌++◌, eqb, ltb, leb, length, set, replicate}
+use Rattle.std.specs.Prelude.{ℕ, suc, ◌+◌, ◌-◌, ◌*◌, Bool, true, false, ◌&&◌, ◌||◌, cond, List, ◌++◌, eqb, ltb, leb, length, set, replicate, Ok, Err}
 use Rattle.std.proofs.lemmas.List.Edits.{sets}
 use Rattle.fields.specs.Cut.{split, nth}
 use Rattle.names.specs.Names.{bytes, equal}
 use Rattle.tables.specs.Sizes.{max_types, max_values, max_operations, max_attributes, max_blocks, max_regions, max_functions, max_entries, max_rank, max_text, type_table, value_table, operation_table, attribute_table, block_table, region_table, function_table}
 use Rattle.tables.specs.Tables.{Tables, lent}
 use Rattle.tables.specs.declared.Counts.{Counts}
-use Rattle.tables.specs.declared.Answer.{Answer}
-use Rattle.tables.specs.declared.Answer.TheVariants.{Accepted, Refused}
+use Rattle.tables.specs.Answer.{Answer}
 use Rattle.tables.specs.declared.Refusal.{Refusal}
 use Rattle.tables.specs.declared.Refusal.TheVariants.{OutOfRange, NotInForm}
 use Rattle.lines.specs.Field.{Read, says, bad}
@@ -35,12 +34,12 @@ state phase lines bytes entries version sm x answer =
     record { phase = phase; lines = lines; bytes = bytes; entries = entries; version = version; sm = sm; tables = x; answer = answer }
 
 abbrev pub refuse : Refusal → State → State
-refuse r s = state 0 0 0 0 0 0 (zeroed s.tables) (Refused r)
+refuse r s = state 0 0 0 0 0 0 (zeroed s.tables) (Err r)
 
 -- ---- a line that is taken: the next phase, the bytes up to its end, how many list entries it adds, and the tables with it
 
 abbrev pub taken : State → ℕ → ℕ → ℕ → Tables → State
-taken s phase bytes more x = state phase (suc s.lines) bytes (s.entries + more) s.version s.sm x Accepted
+taken s phase bytes more x = state phase (suc s.lines) bytes (s.entries + more) s.version s.sm x (Ok tt)
 
 abbrev pub counts : ℕ → ℕ → ℕ → ℕ → ℕ → ℕ → ℕ → Counts
 counts t v o a b r f = record { types = t; values = v; operations = o; attributes = a; blocks = b; regions = r; functions = f }
@@ -69,7 +68,7 @@ module _ (s : State) (end : ℕ) where
   n = s.tables.counts
 
   abbrev pub take_header : HeaderRow → State
-  take_header w = state 1 (suc s.lines) end s.entries w.version w.sm x Accepted
+  take_header w = state 1 (suc s.lines) end s.entries w.version w.sm x (Ok tt)
 
   abbrev pub take_type : TypeRow → State
   take_type w =
@@ -197,8 +196,8 @@ placed s end fs tag = cond (well_placed tag fs s.phase) (take_line s end fs tag)
 -- ---- one line, without its LF, which counts
 
 abbrev pub onward : Answer → State → State → State
-onward Accepted s next = next
-onward (Refused r) s next = s
+onward (Ok _) s next = next
+onward (Err r) s next = s
 
 -- a line past the text; or a state that no text reaches (law `reached` of crate `module_text`): more lines than a text has bytes, or more
 -- attributes than there is room for

@@ -1,12 +1,11 @@
 -- How the reader takes a line in steps: the kind of a line as a number, and the reading that follows.
-use Rattle.std.specs.Prelude.{ℕ, suc, ◌-◌, Bool, ◌&&◌, cond, List, eqb, ltb, length}
+use Rattle.std.specs.Prelude.{ℕ, suc, ◌-◌, Bool, ◌&&◌, cond, List, eqb, ltb, length, Ok, Err}
 use Rattle.fields.specs.Cut.{nth}
 use Rattle.lines.specs.Field.{Read, says, bad}
 use Rattle.lines.specs.Line.{HeaderRow}
 use Rattle.tables.specs.declared.Counts.{Counts}
 use Rattle.tables.specs.Tables.{Tables, lent}
-use Rattle.tables.specs.declared.Answer.{Answer}
-use Rattle.tables.specs.declared.Answer.TheVariants.{Accepted, Refused}
+use Rattle.tables.specs.Answer.{Answer}
 use Rattle.tables.specs.declared.Refusal.{Refusal}
 use Rattle.tables.specs.declared.Refusal.TheVariants.{OutOfRange, NotInForm}
 use Rattle.stores.specs.declared.Step.{Step}
@@ -57,7 +56,7 @@ next x = cond (ltb x 0x1_0000_0000) (suc x) x
 
 abbrev pub refusing : Refusal → Reading
 refusing q =
-    record { phase = 0; lines = 0; bytes = 0; entries = 0; version = 0; sm = 0; counts = no_counts; answer = Refused q }
+    record { phase = 0; lines = 0; bytes = 0; entries = 0; version = 0; sm = 0; counts = no_counts; answer = Err q }
 
 -- the count of a kind's table
 abbrev pub count_of : Counts → ℕ → ℕ
@@ -94,7 +93,7 @@ advance_of s k end (Taken entries) =
       version = s.version;
       sm = s.sm;
       counts = counted s.counts k;
-      answer = Accepted;
+      answer = (Ok tt);
     }
 
 unfoldable pub header_next : Reading → ℕ → Read HeaderRow → Reading
@@ -108,7 +107,7 @@ header_next s end (says w) =
       version = w.version;
       sm = w.sm;
       counts = s.counts;
-      answer = Accepted;
+      answer = (Ok tt);
     }
 
 -- ---- the state of a reading, beside the tables it was lent
@@ -120,8 +119,8 @@ state_of s x =
 
 -- a refusal zeroes the tables, whatever was written to them
 abbrev pub settled_by : Answer → State → State
-settled_by Accepted s = s
-settled_by (Refused q) s = refuse q s
+settled_by (Ok _) s = s
+settled_by (Err q) s = refuse q s
 
 abbrev pub settled : State → State
 settled s = settled_by s.answer s

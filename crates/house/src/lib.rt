@@ -115,7 +115,7 @@ pub fn refusing(refusal: Refusal) -> Reading
         version: 0,
         sm: 0,
         counts,
-        answer: Answer::Refused(refusal),
+        answer: Err(refusal),
     }
 }
 
@@ -231,7 +231,7 @@ fn advance(s: Reading, kind: u64, end: u64, step: Step) -> Reading
             version: s.version,
             sm: s.sm,
             counts: counted(n, kind),
-            answer: Answer::Accepted,
+            answer: Ok(()),
         },
     }
 }
@@ -254,7 +254,7 @@ fn header_next(line: &[u8], s: Reading, end: u64) -> Reading
             version,
             sm,
             counts: n,
-            answer: Answer::Accepted,
+            answer: Ok(()),
         },
     }
 }
@@ -353,8 +353,8 @@ pub fn settle(
 {
     let answer = s.answer;
     match answer {
-        Answer::Accepted => s,
-        Answer::Refused(refusal) => {
+        Ok(()) => s,
+        Err(refusal) => {
             cells::clear(t);
             cells::clear(v);
             cells::clear(o);
@@ -385,8 +385,8 @@ pub fn take_line(
 {
     let answer = s.answer;
     match answer {
-        Answer::Refused(_) => s,
-        Answer::Accepted => {
+        Err(_) => s,
+        Ok(()) => {
             let next = next_reading(line, s, t, v, o, a, b, r, f, l);
             settle(next, t, v, o, a, b, r, f, l)
         }

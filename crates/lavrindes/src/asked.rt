@@ -98,7 +98,7 @@ pub fn whole(sheet_text: &[u8], text: &[u8]) {
 pub fn alone(part: Part, sheet_text: &[u8], text: &[u8]) {
     let mut sheet = [0u64; 320];
     if takes_sheet(part) {
-        if let Answer::Refused(why) = sheet::read_sheet(sheet_text, &mut sheet) {
+        if let Err(why) = sheet::read_sheet(sheet_text, &mut sheet) {
             said::refused(in_sheet(why));
             return;
         }
@@ -115,7 +115,7 @@ pub fn alone(part: Part, sheet_text: &[u8], text: &[u8]) {
         text, &mut t, &mut v, &mut o, &mut a, &mut b, &mut r, &mut f, &mut l,
     );
     let read = s.answer;
-    if let Answer::Refused(why) = read {
+    if let Err(why) = read {
         said::refusal(why);
         return;
     }
@@ -182,9 +182,7 @@ fn tables_alone(
     l: &[u64],
     n: Counts,
 ) -> Answer {
-    if let Answer::Refused(why) = table_checks::check_target(g) {
-        return Answer::Refused(why);
-    }
+    table_checks::check_target(g)?;
     // Neither the walk order nor the claims are asked for.
     let mut order = [0u64; 0];
     let mut bases = [0u64; 0];
@@ -203,8 +201,8 @@ fn tables_alone(
         &mut bases,
         &mut claims,
     ) {
-        Checked::Fine(_) => Answer::Accepted,
-        Checked::Refused(why) => Answer::Refused(why),
+        Checked::Fine(_) => Ok(()),
+        Checked::Refused(why) => Err(why),
     }
 }
 
@@ -240,7 +238,7 @@ pub fn read_back(text: &[u8], list: &[u8]) {
         text, &mut t, &mut v, &mut o, &mut a, &mut b, &mut r, &mut f, &mut l,
     );
     let read = s.answer;
-    if let Answer::Refused(why) = read {
+    if let Err(why) = read {
         said::refusal(why);
         return;
     }
@@ -274,7 +272,7 @@ fn of_lists(
 ) {
     let mut places = [0u64; 24576];
     match number_lists::read_lists(o, b, r, f, l, n, numbers, lengths, &mut places) {
-        Answer::Refused(why) => said::refusal(why),
-        Answer::Accepted => said::placed(&places, lengths),
+        Err(why) => said::refusal(why),
+        Ok(()) => said::placed(&places, lengths),
     }
 }

@@ -20,10 +20,10 @@ pub fn refusal(why: Refusal) {
 // `ok` alone, or the refusal.
 pub fn answer(answer: Answer) {
     match answer {
-        Answer::Accepted => {
+        Ok(()) => {
             io::write_all(OUT, b"ok\n");
         }
-        Answer::Refused(why) => {
+        Err(why) => {
             refusal(why);
         }
     }

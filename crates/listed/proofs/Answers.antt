@@ -2,19 +2,18 @@
 use Prim.Native.Nat.{ℕ}
 use native.Mathlib.Omega.{arith}
 use mathlib.Core.Path.{◌≡◌, refl, sym, ap, ◌∙◌}
-use Rattle.tables.specs.Answer.{and_then}
-use Rattle.tables.specs.declared.Answer.{Answer}
-use Rattle.tables.specs.declared.Answer.TheVariants.{Accepted, Refused}
+use Rattle.tables.specs.Answer.{and_then, Answer}
+use Rattle.std.specs.Prelude.{Ok, Err}
 use Rattle.tables.specs.declared.Refusal.{Refusal}
 
 -- `a` is what the code was answered, `first` what a definition says it is
 module _ (a first rest : Answer) (e : a ≡ first) where
-  pub ends : {r : Refusal} → a ≡ Refused r → Refused r ≡ and_then first rest
+  pub ends : {r : Refusal} → a ≡ Err r → Err r ≡ and_then first rest
   ends q = ap (λ (x : Answer). and_then x rest) (sym q ∙ e)
 
-  pub goes_on : a ≡ Accepted → rest ≡ and_then first rest
+  pub goes_on : a ≡ Ok tt → rest ≡ and_then first rest
   goes_on q = ap (λ (x : Answer). and_then x rest) (sym q ∙ e)
 
-pub both_accept : (first rest : Answer) → and_then first rest ≡ Accepted → (first ≡ Accepted) × (rest ≡ Accepted)
-both_accept Accepted rest e = (refl, e)
-both_accept (Refused r) rest e = absurd (let z : ◌≡◌ {A = ℕ} 0 1 = cc in omega arith)
+pub both_accept : (first rest : Answer) → and_then first rest ≡ Ok tt → (first ≡ Ok tt) × (rest ≡ Ok tt)
+both_accept (Ok _) rest e = (refl, e)
+both_accept (Err r) rest e = absurd (let z : ◌≡◌ {A = ℕ} 0 1 = cc in omega arith)

@@ -8,23 +8,23 @@ use lib.Dec.{ltb}
 use borrow.Author.Tests.{ltb-false}
 use Rattle.cells.specs.Lists.{count}
 use Rattle.tables.specs.Tables.{Tables}
-use Rattle.tables.specs.declared.Answer.TheVariants.{Accepted}
+use Rattle.std.specs.Prelude.{Ok}
 use Rattle.listed.specs.Twice.{listed_operations, listed_blocks, listed_regions, lowest_twice, refused, listed_twice}
 use Rattle.listed.specs.Once.{Once}
 use Rattle.listed.proofs.Answers.{both_accept}
 use Rattle.listed.proofs.Find.{find_none}
 
 -- an answer that is accepted found nothing
-accepted : (list : ℕ) (found : Option ℕ) → refused list found ≡ Accepted → found ≡ none
+accepted : (list : ℕ) (found : Option ℕ) → refused list found ≡ Ok tt → found ≡ none
 accepted list none e = refl
 accepted list (some i) e = absurd (let z : ◌≡◌ {A = ℕ} 0 1 = cc in omega arith)
 
-at_most_once : (list : ℕ) (xs : List ℕ) (n : ℕ) → refused list (lowest_twice xs n) ≡ Accepted → (i : ℕ) → i < n → count i xs ≤ 1
+at_most_once : (list : ℕ) (xs : List ℕ) (n : ℕ) → refused list (lowest_twice xs n) ≡ Ok tt → (i : ℕ) → i < n → count i xs ≤ 1
 unfolding lowest_twice
 at_most_once list xs n e i h =
     ltb-false 1 (count i xs) (find_none (λ j. ltb 1 (count j xs)) 0 n i (accepted list _ e) (omega arith) (omega arith))
 
-pub once : (x : Tables) → listed_twice x ≡ Accepted → Once x
+pub once : (x : Tables) → listed_twice x ≡ Ok tt → Once x
 unfolding listed_twice
 once x e =
     let p = both_accept (refused 0 (lowest_twice (listed_operations x) x.counts.operations)) _ e in

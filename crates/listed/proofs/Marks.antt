@@ -14,7 +14,7 @@ use Rattle.cells.proofs.Parts.{left_step, left_end}
 use Rattle.listed.specs.Marks.{once_more, mark, mark_all, lowest_marked, lowest_seen}
 use Rattle.tables.specs.Sizes.{cut_counts}
 use Rattle.tables.specs.declared.Counts.{Counts}
-use Rattle.tables.specs.declared.Answer.{Answer}
+use Rattle.tables.specs.Answer.{Answer}
 use Rattle.listed.specs.Twice.{lowest_twice, refused}
 use Rattle.listed.proofs.Find.{later, later_start, later_step, later_end, find_same}
 

@@ -1,12 +1,10 @@
 -- Code 2: "an operation, block, region or function is listed twice, in one list or two; a function stands inside a block | lowest such
 -- id, operations before blocks before regions; 0, 1, 2". Lists of unattached entries count too.
-use Rattle.std.specs.Prelude.{ℕ, List, ◌++◌, ltb}
+use Rattle.std.specs.Prelude.{ℕ, List, ◌++◌, ltb, Ok, Err}
 use Rattle.std.proofs.Math.Option.{Option, some, none}
 use Rattle.cells.specs.Lists.{below, flat, count, find}
 use Rattle.tables.specs.Tables.{Tables, functions, regions, blocks, operations}
-use Rattle.tables.specs.Answer.{and_then}
-use Rattle.tables.specs.declared.Answer.{Answer}
-use Rattle.tables.specs.declared.Answer.TheVariants.{Accepted, Refused}
+use Rattle.tables.specs.Answer.{and_then, Answer}
 use Rattle.tables.specs.declared.Refusal.TheVariants.{ListedTwice}
 
 -- what is listed in all: operations by functions and blocks, blocks by regions, regions by operations
@@ -24,8 +22,8 @@ unfoldable pub lowest_twice : List ℕ → ℕ → Option ℕ
 lowest_twice xs n = find (λ i. ltb 1 (count i xs)) (below n)
 
 abbrev pub refused : ℕ → Option ℕ → Answer
-refused list none = Accepted
-refused list (some i) = Refused (ListedTwice i list)
+refused list none = Ok tt
+refused list (some i) = Err (ListedTwice i list)
 
 unfoldable pub listed_twice : Tables → Answer
 listed_twice x =

@@ -88,11 +88,11 @@ fn lowest_marked(marks: &[u64], n: u64, list: u64) -> Answer
     let mut id = 0;
     while id < n {
         if 1 < cells::at(marks, id) {
-            return Answer::Refused(Refusal::ListedTwice { id, list });
+            return Err(Refusal::ListedTwice { id, list });
         }
         id += 1;
     }
-    Answer::Accepted
+    Ok(())
 }
 
 // An operation that functions and blocks list twice.
@@ -128,11 +128,7 @@ pub fn listed_twice(o: &[u32], b: &[u32], r: &[u32], f: &[u32], l: &[u64], n: Co
     ensures { result ≡ listed_twice (cut (nest o.now b.now r.now f.now l.now n)) }
 {
     let m = tables::cut_counts(n);
-    if let Answer::Refused(why) = twice_operations(b, f, l, m) {
-        return Answer::Refused(why);
-    }
-    if let Answer::Refused(why) = twice_blocks(r, l, m) {
-        return Answer::Refused(why);
-    }
+    twice_operations(b, f, l, m)?;
+    twice_blocks(r, l, m)?;
     twice_regions(o, l, m)
 }

@@ -13,8 +13,8 @@ use borrow.Author.Tests.{le-ltb, ltb-true, ltb-false, eqb-true}
 use Rattle.fields.specs.Cut.{split, nth}
 use Rattle.tables.specs.Sizes.{max_text, max_attributes}
 use Rattle.tables.specs.Tables.{Tables}
-use Rattle.tables.specs.declared.Answer.{Answer}
-use Rattle.tables.specs.declared.Answer.TheVariants.{Accepted, Refused}
+use Rattle.tables.specs.Answer.{Answer}
+use Rattle.std.specs.Prelude.{Ok, Err}
 use Rattle.tables.specs.declared.Refusal.{Refusal}
 use Rattle.tables.specs.declared.Refusal.TheVariants.{OutOfRange, NotInForm}
 use Rattle.lines.specs.Field.{Read, says, bad}
@@ -163,8 +163,8 @@ judged_sound s line h = rw (far_is s (s.bytes + suc (length line)) h) (by (ltb 6
         (split 9 line) (tag_of (nth 0 (split 9 line))) (well_placed (tag_of (nth 0 (split 9 line))) (split 9 line) s.phase) refl
 
 onward_sound : (q : Answer) (s next : State) → Sound s → Sound next → Sound (onward q s next)
-onward_sound Accepted s next h k = k
-onward_sound (Refused r) s next h k = h
+onward_sound (Ok _) s next h k = k
+onward_sound (Err r) s next h k = h
 
 one_line : (s : State) (line : List ℕ) → Sound s → Sound (line_of s line)
 unfolding line_of
@@ -183,8 +183,8 @@ start_sound : (x : Tables) → Sound (start_of x)
 start_sound x = by (room_in x)
   where
     by : (q : Answer) → Sound (started q (fresh x))
-    by Accepted = fresh_sound x
-    by (Refused r) = refuse_sound r (fresh x)
+    by (Ok _) = fresh_sound x
+    by (Err r) = refuse_sound r (fresh x)
 
 after_sound : (s : State) (ls : List (List ℕ)) → Sound s → Sound (after s ls)
 unfolding after

@@ -11,8 +11,8 @@ use borrow.Author.Tests.{lt-ltb, le-ltb, ltb-false}
 use Rattle.fields.specs.Cut.{split, end_from}
 use Rattle.fields.proofs.Parts.{split_cons, end_le, at_last, at_more}
 use Rattle.tables.specs.Tables.{Tables}
-use Rattle.tables.specs.declared.Answer.{Answer}
-use Rattle.tables.specs.declared.Answer.TheVariants.{Accepted, Refused}
+use Rattle.tables.specs.Answer.{Answer}
+use Rattle.std.specs.Prelude.{Ok, Err}
 use Rattle.tables.specs.declared.Refusal.{Refusal}
 use Rattle.tables.specs.declared.Refusal.TheVariants.{OutOfRange, NotInForm}
 use Rattle.stores.proofs.Stores.{impossible}
@@ -26,8 +26,8 @@ use Rattle.module_text.specs.Step.{first_reading, last_reading}
 
 -- ---- before any line
 pub first_settled : (q : Answer) (x : Tables) → settled (state_of (first_reading q) x) ≡ started q (fresh x)
-first_settled Accepted x = refl
-first_settled (Refused r) x = refl
+first_settled (Ok _) x = refl
+first_settled (Err r) x = refl
 
 -- ---- what follows the last LF
 module _ (s : Reading) (x : Tables) (left : ℕ) where
@@ -40,10 +40,10 @@ module _ (s : Reading) (x : Tables) (left : ℕ) where
   abbrev ending : Bool → Bool → State
   ending t u = cond t (state_of s x) (cond u (refuse (OutOfRange 0 0) (state_of s x)) (refuse (NotInForm (suc s.lines) 0) (state_of s x)))
 
-  pub last_kept : (q : Refusal) → s.answer ≡ Refused q → state_of s x ≡ last_of (state_of s x) left
+  pub last_kept : (q : Refusal) → s.answer ≡ Err q → state_of s x ≡ last_of (state_of s x) left
   last_kept q h = sym (ap (λ (a : Answer). onward a (state_of s x) (ending ends far)) h)
 
-  pub last_settled : s.answer ≡ Accepted → settled (state_of (last_reading s left) x) ≡ last_of (state_of s x) left
+  pub last_settled : s.answer ≡ Ok tt → settled (state_of (last_reading s left) x) ≡ last_of (state_of s x) left
   unfolding last_reading
   last_settled h = by ends far ∙ sym (ap (λ (a : Answer). onward a (state_of s x) (ending ends far)) h)
     where

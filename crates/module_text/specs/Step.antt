@@ -1,7 +1,7 @@
 -- How the reader begins and ends in steps: the first reading, and the one after the last LF.
 use Rattle.std.specs.Prelude.{ℕ, suc, ◌+◌, ◌&&◌, ◌||◌, cond, eqb, ltb}
 use Rattle.tables.specs.Sizes.{max_text, max_attributes}
-use Rattle.tables.specs.declared.Answer.{Answer}
+use Rattle.tables.specs.Answer.{Answer}
 use Rattle.tables.specs.declared.Refusal.TheVariants.{OutOfRange, NotInForm}
 use Rattle.house.specs.House.{no_counts}
 use Rattle.house.specs.Step.{refusing}

@@ -1,10 +1,9 @@
 -- The whole house text: the room that is asked for before any line, the lines one after another, and what follows the last LF.
-use Rattle.std.specs.Prelude.{ℕ, suc, ◌+◌, ◌*◌, Bool, true, false, ◌&&◌, cond, List, [], ◌∷◌, eqb, ltb, leb, length}
+use Rattle.std.specs.Prelude.{ℕ, suc, ◌+◌, ◌*◌, Bool, true, false, ◌&&◌, cond, List, [], ◌∷◌, eqb, ltb, leb, length, Ok, Err}
 use Rattle.fields.specs.Cut.{split}
 use Rattle.tables.specs.Sizes.{max_types, max_values, max_operations, max_attributes, max_blocks, max_regions, max_functions, max_entries}
 use Rattle.tables.specs.Tables.{Tables, lent}
-use Rattle.tables.specs.declared.Answer.{Answer}
-use Rattle.tables.specs.declared.Answer.TheVariants.{Accepted, Refused}
+use Rattle.tables.specs.Answer.{Answer}
 use Rattle.tables.specs.declared.Refusal.TheVariants.{OutOfRange, TooShort, NotInForm}
 use Rattle.house.specs.State.{State}
 use Rattle.house.specs.House.{no_counts, state, refuse, onward, too_far, line_of}
@@ -13,7 +12,7 @@ use Rattle.house.specs.House.{no_counts, state, refuse, onward, too_far, line_of
 
 abbrev pub full_size : Bool → ℕ → Answer → Answer
 full_size true size rest = rest
-full_size false size rest = Refused (TooShort size)
+full_size false size rest = Err (TooShort size)
 
 -- of slices so long
 unfoldable pub room : ℕ → ℕ → ℕ → ℕ → ℕ → ℕ → ℕ → ℕ → Answer
@@ -25,7 +24,7 @@ room t v o a b r f l =
     (full_size (leb (max_blocks * 4) b) max_blocks
     (full_size (leb (max_regions * 2) r) max_regions
     (full_size (leb max_functions f) max_functions
-    (full_size (leb max_entries l) max_entries Accepted)))))))
+    (full_size (leb max_entries l) max_entries (Ok tt))))))))
 
 abbrev pub room_in : Tables → Answer
 room_in x =
@@ -33,11 +32,11 @@ room_in x =
 
 -- nothing read yet: whatever the lent tables hold, none of it counts
 abbrev pub fresh : Tables → State
-fresh x = state 0 0 0 0 0 0 (lent x.t x.v x.o x.a x.b x.r x.f x.l no_counts) Accepted
+fresh x = state 0 0 0 0 0 0 (lent x.t x.v x.o x.a x.b x.r x.f x.l no_counts) (Ok tt)
 
 abbrev pub started : Answer → State → State
-started Accepted s = s
-started (Refused r) s = refuse r s
+started (Ok _) s = s
+started (Err r) s = refuse r s
 
 abbrev pub start_of : Tables → State
 start_of x = started (room_in x) (fresh x)

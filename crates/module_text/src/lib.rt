@@ -1,7 +1,7 @@
 // A whole module text in the house form, read into the lent tables.
 #![tactic(auto)]
 
-ghost use Rattle.std.specs.Prelude.{◌≡◌, ◌+◌, eqb, ltb, ◌&&◌, ◌||◌};
+ghost use Rattle.std.specs.Prelude.{◌≡◌, ◌+◌, eqb, ltb, ◌&&◌, ◌||◌, Err};
 ghost use Rattle.tables.specs.Tables.{lent};
 ghost use Rattle.house.specs.House.{no_counts};
 ghost use Rattle.house.specs.Step.{state_of};
@@ -12,9 +12,9 @@ use house::Reading;
 use tables::{Answer, Counts, Refusal};
 
 fn short(needed: u64) -> Answer
-    ensures { result ≡ Answer.Refused (Refusal.TooShort needed) }
+    ensures { result ≡ Err (Refusal.TooShort needed) }
 {
-    Answer::Refused(Refusal::TooShort { needed })
+    Err(Refusal::TooShort { needed })
 }
 
 // Whether slices so long have room for every entry; the first that has not answers.
@@ -45,7 +45,7 @@ fn room(t: u64, v: u64, o: u64, a: u64, b: u64, r: u64, f: u64, l: u64) -> Answe
     if l < tables::MAX_ENTRIES {
         return short(tables::MAX_ENTRIES);
     }
-    Answer::Accepted
+    Ok(())
 }
 
 fn first_reading(answer: Answer) -> Reading
@@ -158,8 +158,8 @@ pub fn last_line(
 {
     let answer = s.answer;
     match answer {
-        Answer::Refused(_) => s,
-        Answer::Accepted => house::settle(last_reading(left, s), t, v, o, a, b, r, f, l),
+        Err(_) => s,
+        Ok(()) => house::settle(last_reading(left, s), t, v, o, a, b, r, f, l),
     }
 }
 

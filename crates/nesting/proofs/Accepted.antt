@@ -11,9 +11,7 @@ use lib.Dec.{eqb}
 use Rattle.cells.specs.Lists.{below}
 use Rattle.tables.specs.Tables.{Tables, opcode, operands, result_types}
 use Rattle.tables.specs.Sheet.{fixed_count_in}
-use Rattle.tables.specs.declared.Answer.TheVariants.{Accepted}
-use Rattle.tables.specs.declared.Fixed.{Fixed}
-use Rattle.tables.specs.declared.Fixed.TheVariants.{Count, Free}
+use Rattle.std.specs.Prelude.{Ok, Option, Some, None}
 use Rattle.tables.specs.declared.Place.{Place}
 use Rattle.tables.specs.declared.Place.TheVariants.{Result}
 use Rattle.tables.specs.declared.Refusal.{Refusal}
@@ -50,9 +48,9 @@ look_refused x live i k (v ∷ vs) r e =
     not_found none p = refl
     not_found (some n) p = let z : ◌≡◌ {A = ℕ} 0 1 = cc in absurd (omega arith)
 
-count_refused : (c : Fixed) (i n : ℕ) (r : Refusal) → counted c i n ≡ refused r → r ≡ ResultCount i n
-count_refused Free i n r e = let z : ◌≡◌ {A = ℕ} 0 1 = cc in absurd (omega arith)
-count_refused (Count m) i n r e = go (eqb m n) refl
+count_refused : (c : Option ℕ) (i n : ℕ) (r : Refusal) → counted c i n ≡ refused r → r ≡ ResultCount i n
+count_refused None i n r e = let z : ◌≡◌ {A = ℕ} 0 1 = cc in absurd (omega arith)
+count_refused (Some m) i n r e = go (eqb m n) refl
   where
     go : (b : Bool) → eqb m n ≡ b → r ≡ ResultCount i n
     go true q = let z : ◌≡◌ {A = Listing ℕ} (fine []) (refused r) = rw q at e in let y : ◌≡◌ {A = ℕ} 0 1 = cc in absurd (omega arith)
@@ -83,7 +81,7 @@ only_operands sheet x u i k e =
     (join_refused (counted fixed u.op n) (values_there x u.op) (NoNumber i k) p))
     (join_refused (look x u.live u.op 0 (operands x u.op)) _ (NoNumber i k) e)
 
-pub accepted_numbered : (sheet : List ℕ) (x : Tables) → dominance x ≡ Accepted → (i k : ℕ) → numbering sheet x ≡ refused (NoNumber i k) → ⊥
+pub accepted_numbered : (sheet : List ℕ) (x : Tables) → dominance x ≡ Ok tt → (i k : ℕ) → numbering sheet x ≡ refused (NoNumber i k) → ⊥
 unfolding numbering
 accepted_numbered sheet x a i k e =
     let w = collect_refused (numbers_at sheet x) (entries_visits (placed (nesting_of x))) (NoNumber i k) e in

@@ -4,9 +4,8 @@ use native.Mathlib.Omega.{arith}
 use mathlib.Core.Path.{◌≡◌, refl, ap, sym, ◌∙◌}
 use mathlib.Core.List.{List, [], ◌∷◌, ◌++◌, append_assoc}
 use Rattle.cells.specs.Lists.{flat}
-use Rattle.tables.specs.Answer.{and_then, each}
-use Rattle.tables.specs.declared.Answer.{Answer}
-use Rattle.tables.specs.declared.Answer.TheVariants.{Accepted, Refused}
+use Rattle.tables.specs.Answer.{and_then, each, Answer}
+use Rattle.std.specs.Prelude.{Ok, Err}
 use Rattle.nesting.specs.In.{In, here, later}
 use Rattle.nesting.specs.Shape.{first}
 use Rattle.nesting.specs.Numbering.{Listing, fine, refused, join, collect}
@@ -17,8 +16,8 @@ pub record Lawful {B : Type 0} (w : Way B) : Type 0 where
   pub assoc : (a b c : B) → w.both (w.both a b) c ≡ w.both a (w.both b c)
 
 then_assoc : (a b c : Answer) → and_then (and_then a b) c ≡ and_then a (and_then b c)
-then_assoc Accepted b c = refl
-then_assoc (Refused r) b c = refl
+then_assoc (Ok _) b c = refl
+then_assoc (Err r) b c = refl
 
 pub answers_lawful : Lawful answers
 answers_lawful = record { unit = λ a. refl; assoc = then_assoc }

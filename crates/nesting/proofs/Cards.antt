@@ -10,7 +10,7 @@ use Rattle.tables.specs.Tables.{Tables}
 use Rattle.tables.specs.Place.{defining_place}
 use Rattle.tables.specs.Value.{value_of}
 use Rattle.tables.specs.declared.Place.TheVariants.{Argument, Result, Nowhere}
-use Rattle.tables.specs.declared.Answer.TheVariants.{Accepted, Refused}
+use Rattle.std.specs.Prelude.{Ok, Err}
 use Rattle.tables.specs.declared.Refusal.TheVariants.{NotVisible, NotReadable, ResultCount}
 use Rattle.nesting.specs.Shape.{operation_visits, block_visits, region_visits, whole_visits, entry_visits, entries_visits}
 use Rattle.nesting.specs.Live.{result_values, valued, nesting_of, placed, value_at}
@@ -133,22 +133,22 @@ card5 = like_m (0 ∷ 1 ∷ []) [] (2 ∷ 0 ∷ []) (2 ∷ []) [] []
 -- ---- what each says
 
 dominance_cards :
-    (dominance m ≡ Accepted)
-    × (dominance card2 ≡ Refused (NotVisible 4 0))
-    × (dominance card3 ≡ Refused (NotVisible 1 0))
-    × (dominance card4 ≡ Accepted)
-    × (dominance card5 ≡ Accepted)
+    (dominance m ≡ Ok tt)
+    × (dominance card2 ≡ Err (NotVisible 4 0))
+    × (dominance card3 ≡ Err (NotVisible 1 0))
+    × (dominance card4 ≡ Ok tt)
+    × (dominance card5 ≡ Ok tt)
 unfolding m card2 card3 card4 card5 dominance whole_visits region_visits block_visits operation_visits valued result_values value_of claim_in
     claim_flag_in functions_in blocks_in blocks_span_in operations_in operations_span_in arguments_in arguments_span_in regions_in regions_span_in
     operands_in operands_span_in result_types_in result_types_span_in
 dominance_cards = (refl, refl, refl, refl, refl)
 
 sentence_cards :
-    (sentence m ≡ Accepted)
-    × (sentence card2 ≡ Refused (NotVisible 4 0))
-    × (sentence card3 ≡ Refused (NotVisible 1 0))
-    × (sentence card4 ≡ Accepted)
-    × (sentence card5 ≡ Accepted)
+    (sentence m ≡ Ok tt)
+    × (sentence card2 ≡ Err (NotVisible 4 0))
+    × (sentence card3 ≡ Err (NotVisible 1 0))
+    × (sentence card4 ≡ Ok tt)
+    × (sentence card5 ≡ Ok tt)
 unfolding m card2 card3 card4 card5 sentence stands from_region visible result_values value_of claim_in claim_flag_in functions_in blocks_in
     blocks_span_in operations_in operations_span_in arguments_in arguments_span_in regions_in regions_span_in operands_in operands_span_in result_types_in
     result_types_span_in

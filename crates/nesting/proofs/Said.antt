@@ -7,9 +7,8 @@ use mathlib.Core.List.{List, [], ◌∷◌, ◌++◌}
 use mathlib.Core.Logic.{◌↔◌}
 use lib.ListN.{length}
 use Rattle.tables.specs.Tables.{Tables, operands}
-use Rattle.tables.specs.Answer.{and_then, each}
-use Rattle.tables.specs.declared.Answer.{Answer}
-use Rattle.tables.specs.declared.Answer.TheVariants.{Accepted, Refused}
+use Rattle.tables.specs.Answer.{and_then, each, Answer}
+use Rattle.std.specs.Prelude.{Ok, Err}
 use Rattle.tables.specs.declared.Refusal.{Refusal}
 use Rattle.tables.specs.declared.Refusal.TheVariants.{NotVisible}
 use Rattle.nesting.specs.In.{In, here, later}
@@ -19,27 +18,27 @@ use Rattle.nesting.specs.Means.{asked, AllSeen, FirstHidden}
 use Rattle.nesting.proofs.Lists.{in_none}
 use Rattle.nesting.proofs.Stands.{walk_sentence}
 
-then_both : (a b : Answer) → and_then a b ≡ Accepted → (a ≡ Accepted) × (b ≡ Accepted)
-then_both Accepted b h = (refl, h)
-then_both (Refused r) b h = (h, (cc))
+then_both : (a b : Answer) → and_then a b ≡ Ok tt → (a ≡ Ok tt) × (b ≡ Ok tt)
+then_both (Ok _) b h = (refl, h)
+then_both (Err r) b h = (h, (cc))
 
-each_in : {A : Type 0} (f : A → Answer) {x : A} {xs : List A} → In x xs → each f xs ≡ Accepted → f x ≡ Accepted
+each_in : {A : Type 0} (f : A → Answer) {x : A} {xs : List A} → In x xs → each f xs ≡ Ok tt → f x ≡ Ok tt
 each_in f {x} (here {xs}) e = (then_both (f x) (each f xs) e).0
 each_in f (later {x = y} {xs = ys} m) e = each_in f m (then_both (f y) (each f ys) e).1
 
-in_each : {A : Type 0} (f : A → Answer) (xs : List A) → ((x : A) → In x xs → f x ≡ Accepted) → each f xs ≡ Accepted
+in_each : {A : Type 0} (f : A → Answer) (xs : List A) → ((x : A) → In x xs → f x ≡ Ok tt) → each f xs ≡ Ok tt
 in_each f [] h = refl
 in_each f (y ∷ ys) h = rw (h y here) (in_each f ys (λ x m. h x (later m)))
 
-ask_both : (b : Bool) (a : Answer) (r : Refusal) → cond b a (Refused r) ≡ Accepted → (b ≡ true) × (a ≡ Accepted)
+ask_both : (b : Bool) (a : Answer) (r : Refusal) → cond b a (Err r) ≡ Ok tt → (b ≡ true) × (a ≡ Ok tt)
 ask_both true a r h = (refl, h)
 ask_both false a r h = ((cc), (cc))
 
-seen_in_lem : (f : ℕ → Bool) (i : ℕ) {v : ℕ} (k : ℕ) {vs : List ℕ} → In v vs → first_hidden f i k vs ≡ Accepted → f v ≡ true
+seen_in_lem : (f : ℕ → Bool) (i : ℕ) {v : ℕ} (k : ℕ) {vs : List ℕ} → In v vs → first_hidden f i k vs ≡ Ok tt → f v ≡ true
 seen_in_lem f i {v} k (here {xs}) e = (ask_both (f v) (first_hidden f i (suc k) xs) (NotVisible i k) e).0
 seen_in_lem f i k (later {x = y} {xs = ys} m) e = seen_in_lem f i (suc k) m (ask_both (f y) (first_hidden f i (suc k) ys) (NotVisible i k) e).1
 
-in_seen : (f : ℕ → Bool) (i k : ℕ) (vs : List ℕ) → ((v : ℕ) → In v vs → f v ≡ true) → first_hidden f i k vs ≡ Accepted
+in_seen : (f : ℕ → Bool) (i k : ℕ) (vs : List ℕ) → ((v : ℕ) → In v vs → f v ≡ true) → first_hidden f i k vs ≡ Ok tt
 in_seen f i k [] h = refl
 in_seen f i k (x ∷ vs) h = rw (h x here) (in_seen f i (suc k) vs (λ v m. h v (later m)))
 
@@ -49,18 +48,18 @@ record First {A : Type 0} (f : A → Answer) (xs : List A) (r : Refusal) : Type 
   it : A
   behind : List A
   are : xs ≡ before ++ (it ∷ behind)
-  fine : each f before ≡ Accepted
-  says : f it ≡ Refused r
+  fine : each f before ≡ Ok tt
+  says : f it ≡ Err r
 
-each_first : {A : Type 0} (f : A → Answer) (xs : List A) (r : Refusal) → each f xs ≡ Refused r → First f xs r
+each_first : {A : Type 0} (f : A → Answer) (xs : List A) (r : Refusal) → each f xs ≡ Err r → First f xs r
 each_first f [] r h = let z : ◌≡◌ {A = ℕ} 0 1 = cc in absurd (omega arith)
 each_first f (x ∷ xs) r h = split (f x) refl h (each_first f xs r)
   where
-    split : (a : Answer) → f x ≡ a → and_then a (each f xs) ≡ Refused r → (each f xs ≡ Refused r → First f xs r) → First f (x ∷ xs) r
-    split Accepted e g ih =
+    split : (a : Answer) → f x ≡ a → and_then a (each f xs) ≡ Err r → (each f xs ≡ Err r → First f xs r) → First f (x ∷ xs) r
+    split (Ok _) e g ih =
         let w = ih g in
         record { before = x ∷ w.before; it = w.it; behind = w.behind; are = rw w.are; fine = rw e w.fine; says = w.says }
-    split (Refused s) e g ih = record { before = []; it = x; behind = xs; are = refl; fine = refl; says = e ∙ g }
+    split (Err s) e g ih = record { before = []; it = x; behind = xs; are = refl; fine = refl; says = e ∙ g }
 
 -- the same for operands
 record Hidden (f : ℕ → Bool) (i k : ℕ) (vs : List ℕ) (r : Refusal) : Type 0 where
@@ -68,16 +67,16 @@ record Hidden (f : ℕ → Bool) (i k : ℕ) (vs : List ℕ) (r : Refusal) : Typ
   value : ℕ
   right : List ℕ
   are : vs ≡ left ++ (value ∷ right)
-  seen : first_hidden f i k left ≡ Accepted
+  seen : first_hidden f i k left ≡ Ok tt
   unseen : f value ≡ false
   named : r ≡ NotVisible i (k + length left)
 
-hidden_first : (f : ℕ → Bool) (i k : ℕ) (vs : List ℕ) (r : Refusal) → first_hidden f i k vs ≡ Refused r → Hidden f i k vs r
+hidden_first : (f : ℕ → Bool) (i k : ℕ) (vs : List ℕ) (r : Refusal) → first_hidden f i k vs ≡ Err r → Hidden f i k vs r
 hidden_first f i k [] r h = let z : ◌≡◌ {A = ℕ} 0 1 = cc in absurd (omega arith)
 hidden_first f i k (x ∷ vs) r h = split (f x) refl h (hidden_first f i (suc k) vs r)
   where
-    split : (b : Bool) → f x ≡ b → cond b (first_hidden f i (suc k) vs) (Refused (NotVisible i k)) ≡ Refused r
-        → (first_hidden f i (suc k) vs ≡ Refused r → Hidden f i (suc k) vs r) → Hidden f i k (x ∷ vs) r
+    split : (b : Bool) → f x ≡ b → cond b (first_hidden f i (suc k) vs) (Err (NotVisible i k)) ≡ Err r
+        → (first_hidden f i (suc k) vs ≡ Err r → Hidden f i (suc k) vs r) → Hidden f i k (x ∷ vs) r
     split true e g ih =
         let w = ih g in
         let q : suc k + length w.left ≡ k + suc (length w.left) = omega arith in
@@ -96,15 +95,15 @@ hidden_first f i k (x ∷ vs) r h = split (f x) refl h (hidden_first f i (suc k)
         record { left = []; value = x; right = vs; are = refl; seen = refl; unseen = e; named = sym s ∙ ap (NotVisible i) q }
 
 module _ (x : Tables) where
-  judged_seen : (p : Stand) → judged_at x p ≡ Accepted → (v : ℕ) → In v (asked x p) → visible x p v ≡ true
+  judged_seen : (p : Stand) → judged_at x p ≡ Ok tt → (v : ℕ) → In v (asked x p) → visible x p v ≡ true
   judged_seen (func f) h v m = in_none m
   judged_seen (under p j es i) h v m = seen_in_lem (visible x (under p j es i)) i 0 m h
 
-  seen_judged : (p : Stand) → ((v : ℕ) → In v (asked x p) → visible x p v ≡ true) → judged_at x p ≡ Accepted
+  seen_judged : (p : Stand) → ((v : ℕ) → In v (asked x p) → visible x p v ≡ true) → judged_at x p ≡ Ok tt
   seen_judged (func f) h = refl
   seen_judged (under p j es i) h = in_seen (visible x (under p j es i)) i 0 (operands x i) h
 
-  pub accepted_is : (dominance x ≡ Accepted) ↔ AllSeen x (stands x)
+  pub accepted_is : (dominance x ≡ Ok tt) ↔ AllSeen x (stands x)
   unfolding sentence
   accepted_is = (
     λ h p m. judged_seen p (each_in (judged_at x) m (sym (walk_sentence x) ∙ h)),
@@ -112,7 +111,7 @@ module _ (x : Tables) where
   )
 
   hidden_at : (r : Refusal) (ps : List Stand) (p : Stand) (qs : List Stand)
-      → stands x ≡ ps ++ (p ∷ qs) → each (judged_at x) ps ≡ Accepted → judged_at x p ≡ Refused r → FirstHidden x r
+      → stands x ≡ ps ++ (p ∷ qs) → each (judged_at x) ps ≡ Ok tt → judged_at x p ≡ Err r → FirstHidden x r
   hidden_at r ps (func f) qs at fine h = let z : ◌≡◌ {A = ℕ} 0 1 = cc in absurd (omega arith)
   hidden_at r ps (under p j es i) qs at fine h =
       let w = hidden_first (visible x (under p j es i)) i 0 (operands x i) r h in
@@ -132,7 +131,7 @@ module _ (x : Tables) where
         named = w.named ∙ ap (NotVisible i) q;
       }
 
-  pub refused_is : (r : Refusal) → dominance x ≡ Refused r → FirstHidden x r
+  pub refused_is : (r : Refusal) → dominance x ≡ Err r → FirstHidden x r
   unfolding sentence
   refused_is r h =
       let w = each_first (judged_at x) (stands x) r (sym (walk_sentence x) ∙ h) in

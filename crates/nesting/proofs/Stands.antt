@@ -6,9 +6,8 @@ use mathlib.Core.List.{List, [], ◌∷◌, ◌++◌, append_assoc, append-nil}
 use Rattle.cells.specs.Lists.{flat, mem}
 use Rattle.tables.specs.Sizes.{max_depth}
 use Rattle.tables.specs.Tables.{Tables, functions, regions, blocks, operations, arguments, operands}
-use Rattle.tables.specs.Answer.{and_then, each}
-use Rattle.tables.specs.declared.Answer.{Answer}
-use Rattle.tables.specs.declared.Answer.TheVariants.{Accepted, Refused}
+use Rattle.tables.specs.Answer.{and_then, each, Answer}
+use Rattle.std.specs.Prelude.{Ok, Err}
 use Rattle.nesting.specs.Shape.{Visit, visit, operation_visits, operations_visits, block_visits, region_visits, whole_visits}
 use Rattle.nesting.specs.Live.{result_values, valued}
 use Rattle.nesting.specs.Dominance.{judge, judged, dominance}
@@ -158,9 +157,9 @@ judge_same : (live : List ℕ) (sees : ℕ → Bool) → ((v : ℕ) → mem v li
 judge_same live sees h i k [] = refl
 judge_same live sees h i k (v ∷ vs) = rw (h v, judge_same live sees h i (suc k) vs)
 
-then_accepted : (a : Answer) → and_then a Accepted ≡ a
-then_accepted Accepted = refl
-then_accepted (Refused r) = refl
+then_accepted : (a : Answer) → and_then a (Ok tt) ≡ a
+then_accepted (Ok _) = refl
+then_accepted (Err r) = refl
 
 module _ (x : Tables) where
   judged_stand : (p : Stand) → all answers (judged x) (visit_at x p) ≡ judged_at x p

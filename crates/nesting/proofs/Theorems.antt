@@ -7,7 +7,7 @@ use mathlib.Core.Option.{some}
 use lib.ListN.{length}
 use Rattle.cells.specs.Lists.{count}
 use Rattle.tables.specs.Tables.{Tables}
-use Rattle.tables.specs.declared.Answer.TheVariants.{Accepted, Refused}
+use Rattle.std.specs.Prelude.{Ok, Err}
 use Rattle.tables.specs.Place.{defining_place}
 use Rattle.tables.specs.declared.Place.{Place}
 use Rattle.tables.specs.declared.Place.TheVariants.{Nowhere}
@@ -46,11 +46,11 @@ pub walk_is_the_sentence : (x : Tables) → dominance x ≡ sentence x
 walk_is_the_sentence = walk_sentence
 
 -- accepted: exactly when every operand at every stand is visible
-pub accepted_means : (x : Tables) → (dominance x ≡ Accepted) ↔ AllSeen x (stands x)
+pub accepted_means : (x : Tables) → (dominance x ≡ Ok tt) ↔ AllSeen x (stands x)
 accepted_means = accepted_is
 
 -- refused: the first operand in walk order that is not visible is named, and nothing else is ever answered
-pub hidden_means : (x : Tables) (r : Refusal) → dominance x ≡ Refused r → FirstHidden x r
+pub hidden_means : (x : Tables) (r : Refusal) → dominance x ≡ Err r → FirstHidden x r
 hidden_means = refused_is
 
 -- ---- numbers and places
@@ -79,7 +79,7 @@ pub visible_exactly_when_numbered : (x : Tables) (u : Visit Place) → In u (ent
 visible_exactly_when_numbered = numbered
 
 -- where dominance accepts, numbering never misses a number: code 8 is met only where numbering is asked alone
-pub accepted_has_numbers : (sheet : List ℕ) (x : Tables) → dominance x ≡ Accepted → (i k : ℕ)
+pub accepted_has_numbers : (sheet : List ℕ) (x : Tables) → dominance x ≡ Ok tt → (i k : ℕ)
     → numbering sheet x ≡ refused (NoNumber i k) → ⊥
 accepted_has_numbers = accepted_numbered
 

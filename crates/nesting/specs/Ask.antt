@@ -1,10 +1,8 @@
 -- The walk as code makes it: every visit is asked on the way, and the answers are joined in walk order. "region, block and operation still
 -- visit each other in turn"; the depth falls, and what is live is handed on.
-use Rattle.std.specs.Prelude.{ℕ, zero, suc, ◌-◌, List, [], ◌∷◌}
+use Rattle.std.specs.Prelude.{ℕ, zero, suc, ◌-◌, List, [], ◌∷◌, Ok}
 use Rattle.tables.specs.Sizes.{max_depth}
-use Rattle.tables.specs.Answer.{and_then}
-use Rattle.tables.specs.declared.Answer.{Answer}
-use Rattle.tables.specs.declared.Answer.TheVariants.{Accepted}
+use Rattle.tables.specs.Answer.{and_then, Answer}
 use Rattle.nesting.specs.Shape.{Shape, Visit, visit}
 use Rattle.nesting.specs.Numbering.{Listing, fine, join}
 
@@ -15,7 +13,7 @@ pub record Way (B : Type 0) : Type 0 where
 
 -- the first refusal
 abbrev pub answers : Way Answer
-answers = record { nothing = Accepted; both = and_then }
+answers = record { nothing = (Ok tt); both = and_then }
 
 -- the lists one after the other, or the first refusal
 abbrev pub listings : {A : Type 0} → Way (Listing A)

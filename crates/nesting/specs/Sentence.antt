@@ -1,13 +1,11 @@
 -- Dominance as the paper says it, read off the nesting alone: "An operand is visible exactly when it is an argument of a block around the
 -- use, or a declared result of an operation that is earlier in the same or an enclosing block or that encloses the use, the function
 -- operation excluded."
-use Rattle.std.specs.Prelude.{ℕ, zero, suc, Bool, false, ◌||◌, cond, List, [], ◌∷◌, ◌++◌}
+use Rattle.std.specs.Prelude.{ℕ, zero, suc, Bool, false, ◌||◌, cond, List, [], ◌∷◌, ◌++◌, Ok, Err}
 use Rattle.cells.specs.Lists.{flat, mem}
 use Rattle.tables.specs.Sizes.{max_depth}
 use Rattle.tables.specs.Tables.{Tables, functions, regions, blocks, operations, arguments, operands}
-use Rattle.tables.specs.Answer.{each}
-use Rattle.tables.specs.declared.Answer.{Answer}
-use Rattle.tables.specs.declared.Answer.TheVariants.{Accepted, Refused}
+use Rattle.tables.specs.Answer.{each, Answer}
 use Rattle.tables.specs.declared.Refusal.TheVariants.{NotVisible}
 use Rattle.nesting.specs.Live.{result_values}
 
@@ -74,11 +72,11 @@ stands x = flat (λ f. from_operation (from_region max_depth x) x (func f) f) (f
 -- ---- the first operand in walk order that is not visible; the function operation's own operands are not asked
 
 abbrev pub first_hidden : (ℕ → Bool) → ℕ → ℕ → List ℕ → Answer
-first_hidden sees i k [] = Accepted
-first_hidden sees i k (v ∷ vs) = cond (sees v) (first_hidden sees i (suc k) vs) (Refused (NotVisible i k))
+first_hidden sees i k [] = Ok tt
+first_hidden sees i k (v ∷ vs) = cond (sees v) (first_hidden sees i (suc k) vs) (Err (NotVisible i k))
 
 abbrev pub judged_at : Tables → Stand → Answer
-judged_at x (func f) = Accepted
+judged_at x (func f) = Ok tt
 judged_at x (under p j es i) = first_hidden (visible x (under p j es i)) i 0 (operands x i)
 
 unfoldable pub sentence : Tables → Answer

@@ -11,9 +11,8 @@ use Rattle.cells.specs.Lists.{from, find}
 use Rattle.tables.specs.Layout.{regions_in, operations_in}
 use Rattle.tables.specs.Tables.{Tables, opcode, result_types_span, operands_span, regions_span, attributes_span, arguments_span, operations_span}
 use Rattle.tables.specs.Sizes.{opcodes}
-use Rattle.tables.specs.Answer.{and_then}
-use Rattle.tables.specs.declared.Answer.{Answer}
-use Rattle.tables.specs.declared.Answer.TheVariants.{Accepted}
+use Rattle.tables.specs.Answer.{and_then, Answer}
+use Rattle.std.specs.Prelude.{Ok}
 use Rattle.ranges.specs.Entry.{good_operation, good_block, good_region}
 use Rattle.ranges.specs.Range.{sum, room_at, stands, refused, first_bad, listed_by_operation, listed_by_block, listed_by_region, before_blocks, before_regions, table_ranges}
 use Rattle.ranges.specs.Part.{good_list}
@@ -25,7 +24,7 @@ use Rattle.walk.specs.Depth.{too_deep}
 use Rattle.nesting_check.specs.Checks.{nested_operation, nested_block, up_to_operations, up_to_blocks, nesting_ranges, nesting_checks}
 use Rattle.nesting_check.proofs.Ranged.{on_operations, on_blocks, on_regions, on_functions, passes}
 
-accepts : (a b : Answer) → a ≡ Accepted → b ≡ Accepted → and_then a b ≡ Accepted
+accepts : (a b : Answer) → a ≡ Ok tt → b ≡ Ok tt → and_then a b ≡ Ok tt
 accepts a b e f = ap (λ (c : Answer). and_then c b) e ∙ f
 
 none_found : (p : ℕ → Bool) (n s : ℕ) → ((i : ℕ) → s ≤ i → i < s + n → p i ≡ true) → find (λ i. not (p i)) (from s n) ≡ none
@@ -36,7 +35,7 @@ none_found p (suc n) s h =
 
 -- a table that passes does so where less is asked
 still_passes : (table size width : ℕ) (cells : List ℕ) (n : ℕ) (more less : ℕ → Bool) → ((i : ℕ) → more i ≡ true → less i ≡ true)
-    → first_bad table size width cells n more ≡ Accepted → first_bad table size width cells n less ≡ Accepted
+    → first_bad table size width cells n more ≡ Ok tt → first_bad table size width cells n less ≡ Ok tt
 unfolding first_bad
 still_passes table size width cells n more less f e =
     ap (refused table)
@@ -67,7 +66,7 @@ module _ (x : Tables) where
   block_nested j e =
       ((and-eq-true_iff (good_list x.l (arguments_span x j) x.counts.values) (good_list x.l (operations_span x j) x.counts.operations)).0 (block_tests x j ∙ e)).1
 
-  ranges_pass : table_ranges x ≡ Accepted → nesting_ranges x ≡ Accepted
+  ranges_pass : table_ranges x ≡ Ok tt → nesting_ranges x ≡ Ok tt
   unfolding table_ranges nesting_ranges
   ranges_pass e =
       let t = both_accept (all.on_types x) (all.from_values x) e in
@@ -76,15 +75,15 @@ module _ (x : Tables) where
       let a = both_accept (all.on_attributes x) (all.from_blocks x) o.1 in
       let b = both_accept (all.on_blocks x) (all.from_regions x) a.1 in
       let r = both_accept (all.on_regions x) (all.on_functions x) b.1 in
-      let os : on_operations x ≡ Accepted =
+      let os : on_operations x ≡ (Ok tt) =
       still_passes 3 2048 16 x.o x.counts.operations (λ i. good_operation x i && room_at 0 (listed_by_operation x) i)
       (λ i. nested_operation x i && room_at 0 (listed_by_operation x) i)
       (λ i. with_room (good_operation x i) (nested_operation x i) 0 0 (listed_by_operation x) i (operation_nested i) (omega arith)) o.0 in
-      let bs : on_blocks x (up_to_operations x) ≡ Accepted =
+      let bs : on_blocks x (up_to_operations x) ≡ (Ok tt) =
       still_passes 5 512 4 x.b x.counts.blocks (λ j. good_block x j && room_at (before_blocks x) (listed_by_block x) j)
       (λ j. nested_block x j && room_at (up_to_operations x) (listed_by_block x) j)
       (λ j. with_room (good_block x j) (nested_block x j) (before_blocks x) (up_to_operations x) (listed_by_block x) j (block_nested j) (omega arith)) b.0 in
-      let rs : on_regions x (up_to_blocks x) ≡ Accepted =
+      let rs : on_regions x (up_to_blocks x) ≡ (Ok tt) =
       still_passes 6 512 2 x.r x.counts.regions (λ k. good_region x k && room_at (before_regions x) (listed_by_region x) k)
       (λ k. good_region x k && room_at (up_to_blocks x) (listed_by_region x) k)
       (λ k. with_room (good_region x k) (good_region x k) (before_regions x) (up_to_blocks x) (listed_by_region x) k (λ z. z) (omega arith)) r.0 in
@@ -92,7 +91,7 @@ module _ (x : Tables) where
       (accepts (on_blocks x (up_to_operations x)) (and_then (on_regions x (up_to_blocks x)) (on_functions x)) bs
       (accepts (on_regions x (up_to_blocks x)) (on_functions x) rs r.1))
 
-  pub checks_pass : table_ranges x ≡ Accepted → listed_twice x ≡ Accepted → too_deep x ≡ Accepted → nesting_checks x ≡ Accepted
+  pub checks_pass : table_ranges x ≡ Ok tt → listed_twice x ≡ Ok tt → too_deep x ≡ Ok tt → nesting_checks x ≡ Ok tt
   unfolding nesting_checks
   checks_pass e f g =
       accepts (nesting_ranges x) (and_then (listed_twice x) (too_deep x)) (ranges_pass e) (accepts (listed_twice x) (too_deep x) f g)

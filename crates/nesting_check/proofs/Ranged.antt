@@ -15,9 +15,8 @@ use Rattle.cells.specs.declared.Span.{Span}
 use Rattle.cells.proofs.Rows.{lt_or_ge}
 use Rattle.tables.specs.Layout.{counted_span, regions_span_in, regions_in, operations_span_in, operations_in, blocks_span_in, blocks_in, functions_in}
 use Rattle.tables.specs.Tables.{Tables, functions, regions, blocks, operations, regions_span, blocks_span, operations_span, cut}
-use Rattle.tables.specs.Answer.{and_then}
-use Rattle.tables.specs.declared.Answer.{Answer}
-use Rattle.tables.specs.declared.Answer.TheVariants.{Accepted, Refused}
+use Rattle.tables.specs.Answer.{and_then, Answer}
+use Rattle.std.specs.Prelude.{Ok, Err}
 use Rattle.tables.specs.declared.Refusal.{Refusal}
 use Rattle.ranges.specs.Entry.{good_region}
 use Rattle.ranges.specs.Range.{sum, room_at, stands, refused, first_bad, listed_by_operation, listed_by_block, listed_by_region}
@@ -56,11 +55,11 @@ module _ (x : Tables) where
     unfolding nested_operation
     of_operations = s.answer
 
-    pub operations_stop : {r : Refusal} → o.answer ≡ Refused r → Refused r ≡ nesting_ranges x
+    pub operations_stop : {r : Refusal} → o.answer ≡ Err r → Err r ≡ nesting_ranges x
     unfolding nesting_ranges
     operations_stop q = ends o.answer on_operations from_blocks of_operations q
 
-    module _ (p : o.answer ≡ Accepted) (b : Pass)
+    module _ (p : o.answer ≡ Ok tt) (b : Pass)
         (t : let y = tables_of_blocks x.b x.l x.counts in Scanned b 5 512 4 x.b x.counts.blocks (nested_block y) (listed_by_block y) o.used) where
       from_blocks_lem : from_blocks ≡ nesting_ranges x
       unfolding nesting_ranges
@@ -73,10 +72,10 @@ module _ (x : Tables) where
       unfolding nested_block
       of_blocks = t.answer ∙ ap on_blocks before_blocks_lem
 
-      pub blocks_stop : {r : Refusal} → b.answer ≡ Refused r → Refused r ≡ nesting_ranges x
+      pub blocks_stop : {r : Refusal} → b.answer ≡ Err r → Err r ≡ nesting_ranges x
       blocks_stop q = ends b.answer (on_blocks (up_to_operations x)) from_regions of_blocks q ∙ from_blocks_lem
 
-      module _ (q : b.answer ≡ Accepted) (k : Pass)
+      module _ (q : b.answer ≡ Ok tt) (k : Pass)
           (u : let y = tables_of_regions x.r x.l x.counts in Scanned k 6 512 2 x.r x.counts.regions (good_region y) (listed_by_region y) b.used) where
         from_regions_lem : from_regions ≡ nesting_ranges x
         from_regions_lem = goes_on b.answer (on_blocks (up_to_operations x)) from_regions of_blocks q ∙ from_blocks_lem
@@ -88,22 +87,22 @@ module _ (x : Tables) where
         unfolding good_region
         of_regions = u.answer ∙ ap on_regions before_regions_lem
 
-        pub regions_stop : {r : Refusal} → k.answer ≡ Refused r → Refused r ≡ nesting_ranges x
+        pub regions_stop : {r : Refusal} → k.answer ≡ Err r → Err r ≡ nesting_ranges x
         regions_stop z = ends k.answer (on_regions (up_to_blocks x)) on_functions of_regions z ∙ from_regions_lem
 
-        pub functions_end : k.answer ≡ Accepted → (r : Answer)
+        pub functions_end : k.answer ≡ Ok tt → (r : Answer)
             → r ≡ first_bad 7 64 1 x.f x.counts.functions (λ p. ltb (get_or (functions (tables_of_functions x.f x.counts)) p 0) x.counts.operations)
             → r ≡ nesting_ranges x
         functions_end z r e = e ∙ goes_on k.answer (on_regions (up_to_blocks x)) on_functions of_regions z ∙ from_regions_lem
 
 -- ---- a table that passes
 
-module _ (table size width : ℕ) (cells : List ℕ) (n : ℕ) (good : ℕ → Bool) (e : first_bad table size width cells n good ≡ Accepted) where
+module _ (table size width : ℕ) (cells : List ℕ) (n : ℕ) (good : ℕ → Bool) (e : first_bad table size width cells n good ≡ Ok tt) where
   none_bad : find (λ i. not (stands size width cells i && good i)) (below n) ≡ none
   unfolding first_bad
   none_bad = by_cases (find (λ i. not (stands size width cells i && good i)) (below n)) e
     where
-      by_cases : (o : Option ℕ) → refused table o ≡ Accepted → o ≡ none
+      by_cases : (o : Option ℕ) → refused table o ≡ Ok tt → o ≡ none
       by_cases none z = refl
       by_cases (some i) z = absurd (let y : ◌≡◌ {A = ℕ} 0 1 = cc in omega arith)
 
@@ -140,15 +139,15 @@ pub record Nested (x : Tables) : Type 0 where
   pub functions_below : Below (functions x) x.counts.operations
   pub entries_fit : up_to_blocks x ≤ 8192
 
-module _ (x : Tables) (e : nesting_ranges x ≡ Accepted) where
-  turn₁ : (on_operations x ≡ Accepted) × (from_blocks x ≡ Accepted)
+module _ (x : Tables) (e : nesting_ranges x ≡ Ok tt) where
+  turn₁ : (on_operations x ≡ Ok tt) × (from_blocks x ≡ Ok tt)
   unfolding nesting_ranges
   turn₁ = both_accept (on_operations x) (from_blocks x) e
 
-  turn₂ : (on_blocks x (up_to_operations x) ≡ Accepted) × (from_regions x ≡ Accepted)
+  turn₂ : (on_blocks x (up_to_operations x) ≡ Ok tt) × (from_regions x ≡ Ok tt)
   turn₂ = both_accept (on_blocks x (up_to_operations x)) (from_regions x) turn₁.1
 
-  turn₃ : (on_regions x (up_to_blocks x) ≡ Accepted) × (on_functions x ≡ Accepted)
+  turn₃ : (on_regions x (up_to_blocks x) ≡ Ok tt) × (on_functions x ≡ Ok tt)
   turn₃ = both_accept (on_regions x (up_to_blocks x)) (on_functions x) turn₂.1
 
   operation_held : (i : ℕ) → i < x.counts.operations → (nested_operation x i ≡ true) × (room_at 0 (listed_by_operation x) i ≡ true)

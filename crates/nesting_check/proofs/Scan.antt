@@ -8,8 +8,8 @@ use mathlib.Core.Logic.{⊎_elim}
 use borrow.Author.Tests.{le-leb, lt-leb}
 use lib.Dec.{leb}
 use Rattle.cells.proofs.Rows.{lt_or_ge}
-use Rattle.tables.specs.declared.Answer.{Answer}
-use Rattle.tables.specs.declared.Answer.TheVariants.{Accepted, Refused}
+use Rattle.tables.specs.Answer.{Answer}
+use Rattle.std.specs.Prelude.{Ok, Err}
 use Rattle.tables.specs.declared.Refusal.TheVariants.{OutOfRange}
 use Rattle.ranges.specs.Range.{sum, room_at, stands}
 use Rattle.ranges.proofs.Scan.{Scan, good_with_room, check_stop, check_end}
@@ -25,16 +25,16 @@ module _ (table size width : ℕ) (cells : List ℕ) (n : ℕ) (good : ℕ → B
         (λ k. le-leb after 8192 k ∙ sym (le-leb (before + (sum listed i + listed i)) 8192 (omega arith)))
         (lt_or_ge 8192 after)
 
-    pub scan_stops : not (a && (b && leb after 8192)) ≡ true → (r : Answer) → r ≡ Refused (OutOfRange table i)
+    pub scan_stops : not (a && (b && leb after 8192)) ≡ true → (r : Answer) → r ≡ Err (OutOfRange table i)
         → Scanned (record { answer = r; used = after }) table size width cells n good listed before
     scan_stops q r er = record {
       answer =
           check_stop table size width cells n (good_with_room size width cells n good listed before) i inv.0 h a (b && leb after 8192) ea
           (rw (eb, room)) q r er;
-      used = λ z. absurd (let y : Refused (OutOfRange table i) ≡ Accepted = sym er ∙ z in let w : ◌≡◌ {A = ℕ} 0 1 = cc in omega arith);
+      used = λ z. absurd (let y : Err (OutOfRange table i) ≡ (Ok tt) = sym er ∙ z in let w : ◌≡◌ {A = ℕ} 0 1 = cc in omega arith);
     }
 
-  pub scan_ends : n ≤ i → Scanned (record { answer = Accepted; used = used }) table size width cells n good listed before
+  pub scan_ends : n ≤ i → Scanned (record { answer = (Ok tt); used = used }) table size width cells n good listed before
   scan_ends h = record {
     answer = check_end table size width cells n (good_with_room size width cells n good listed before) i inv.0 h;
     used = λ _. let e : i ≡ n = omega (arith, inv.0.0) in inv.1 ∙ ap (λ (k : ℕ). before + sum listed k) e;

@@ -3,8 +3,7 @@
 use Rattle.std.specs.Prelude.{ℕ, ◌+◌, Bool, ◌&&◌, ltb, get_or}
 use Rattle.tables.specs.Sizes.{max_operations, max_blocks, max_regions, max_functions, operation_table, block_table, region_table, function_table}
 use Rattle.tables.specs.Tables.{Tables, functions, regions, operations, regions_span, operations_span}
-use Rattle.tables.specs.Answer.{and_then}
-use Rattle.tables.specs.declared.Answer.{Answer}
+use Rattle.tables.specs.Answer.{and_then, Answer}
 use Rattle.ranges.specs.Entry.{all_below, within, good_region}
 use Rattle.ranges.specs.Range.{sum, listed_by_operation, listed_by_block, listed_by_region, room_at, first_bad}
 use Rattle.listed.specs.Twice.{listed_twice}

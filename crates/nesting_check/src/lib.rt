@@ -1,7 +1,7 @@
 // What reading back asks of the tables first: codes 1, 2 and 3 of the nesting, and nothing of types, values and attributes.
 #![tactic(auto)]
 
-ghost use Rattle.std.specs.Prelude.{◌≡◌, ◌&&◌, [], suc, ◌+◌, ◌*◌, min, ltb, leb, get_or};
+ghost use Rattle.std.specs.Prelude.{◌≡◌, ◌&&◌, [], suc, ◌+◌, ◌*◌, min, ltb, leb, get_or, Err};
 ghost use Rattle.tables.specs.Sizes.{max_operations, max_blocks, max_regions, max_functions, max_entries, operation_table, block_table, region_table, function_table};
 ghost use Rattle.tables.specs.Tables.{nest, functions};
 ghost use Rattle.ranges.specs.Entry.{all_below, good_region};
@@ -119,9 +119,9 @@ fn nested_region(r: &[u32], l: &[u64], n: Counts, id: u64) -> bool
 }
 
 fn out_of_range(table: u64, entry: u64) -> Answer
-    ensures { result ≡ Answer.Refused (Refusal.OutOfRange table entry) }
+    ensures { result ≡ Err (Refusal.OutOfRange table entry) }
 {
-    Answer::Refused(Refusal::OutOfRange { table, entry })
+    Err(Refusal::OutOfRange { table, entry })
 }
 
 fn scan_operations(o: &[u32], l: &[u64], n: Counts, before: u64) -> Pass
@@ -145,7 +145,7 @@ fn scan_operations(o: &[u32], l: &[u64], n: Counts, before: u64) -> Pass
         i += 1;
     }
     Pass {
-        answer: Answer::Accepted,
+        answer: Ok(()),
         used,
     }
 }
@@ -166,7 +166,7 @@ fn scan_blocks(b: &[u32], l: &[u64], n: Counts, before: u64) -> Pass
         i += 1;
     }
     Pass {
-        answer: Answer::Accepted,
+        answer: Ok(()),
         used,
     }
 }
@@ -187,7 +187,7 @@ fn scan_regions(r: &[u32], l: &[u64], n: Counts, before: u64) -> Pass
         i += 1;
     }
     Pass {
-        answer: Answer::Accepted,
+        answer: Ok(()),
         used,
     }
 }
@@ -209,7 +209,7 @@ fn check_functions(f: &[u32], n: Counts) -> Answer
         }
         i += 1;
     }
-    Answer::Accepted
+    Ok(())
 }
 
 // Code 1 for operations, blocks, regions and functions.
@@ -218,19 +218,13 @@ fn check_ranges(o: &[u32], b: &[u32], r: &[u32], f: &[u32], l: &[u64], n: Counts
 {
     let operations = scan_operations(o, l, n, 0);
     let of_operations = operations.answer;
-    if let Answer::Refused(why) = of_operations {
-        return Answer::Refused(why);
-    }
+    of_operations?;
     let blocks = scan_blocks(b, l, n, operations.used);
     let of_blocks = blocks.answer;
-    if let Answer::Refused(why) = of_blocks {
-        return Answer::Refused(why);
-    }
+    of_blocks?;
     let regions = scan_regions(r, l, n, blocks.used);
     let of_regions = regions.answer;
-    if let Answer::Refused(why) = of_regions {
-        return Answer::Refused(why);
-    }
+    of_regions?;
     check_functions(f, n)
 }
 
@@ -238,15 +232,11 @@ fn check_ranges(o: &[u32], b: &[u32], r: &[u32], f: &[u32], l: &[u64], n: Counts
 pub fn check_nesting(o: &[u32], b: &[u32], r: &[u32], f: &[u32], l: &[u64], n: Counts) -> Answer
     ensures { result ≡ nesting_checks (nest o.now b.now r.now f.now l.now n) }
 {
-    if let Answer::Refused(why) = check_ranges(o, b, r, f, l, n) {
-        return Answer::Refused(why);
-    }
-    if let Answer::Refused(why) = listed::listed_twice(o, b, r, f, l, n) {
-        return Answer::Refused(why);
-    }
+    check_ranges(o, b, r, f, l, n)?;
+    listed::listed_twice(o, b, r, f, l, n)?;
     let mut order = [0u64; 1];
     match walk::walk_order(o, b, r, f, l, n, &mut order) {
-        Walked::Fine(_) => Answer::Accepted,
-        Walked::Deep(operation) => Answer::Refused(Refusal::TooDeep { operation }),
+        Walked::Fine(_) => Ok(()),
+        Walked::Deep(operation) => Err(Refusal::TooDeep { operation }),
     }
 }

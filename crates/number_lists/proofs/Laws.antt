@@ -11,8 +11,8 @@ use lib.Seq.{drop-cons, drop-drop, take_all, take-length}
 use Rattle.cells.proofs.Rows.{lt_or_ge, drop_min}
 use Rattle.tables.specs.declared.Counts.{Counts}
 use Rattle.tables.specs.Tables.{nest}
-use Rattle.tables.specs.declared.Answer.{Answer}
-use Rattle.tables.specs.declared.Answer.TheVariants.{Accepted, Refused}
+use Rattle.tables.specs.Answer.{Answer}
+use Rattle.std.specs.Prelude.{Ok, Err}
 use Rattle.tables.specs.declared.Refusal.{Refusal}
 use Rattle.tables.specs.declared.Refusal.TheVariants.{NotReadable}
 use Rattle.nesting_check.specs.Checks.{nesting_checks}
@@ -61,18 +61,18 @@ module _ (o b r l : List ℕ) (n : Counts) where
 -- from the checks to the answer
 module _ (o b r f l : List ℕ) (n : Counts) (numbers lengths held : List ℕ) (a : Answer) (e : a ≡ nesting_checks (nest o b r f l n)) where
   rest : Bool → Outcome
-  rest z = cond z (read_back_alone (nest o b r f l n) numbers held) (outcome (Refused (NotReadable 0 0)) held)
+  rest z = cond z (read_back_alone (nest o b r f l n) numbers held) (outcome (Err (NotReadable 0 0)) held)
 
-  pub checks_stop : {why : Refusal} → a ≡ Refused why → outcome (Refused why) held ≡ read_lists o b r f l n numbers lengths held
+  pub checks_stop : {why : Refusal} → a ≡ Err why → outcome (Err why) held ≡ read_lists o b r f l n numbers lengths held
   unfolding read_lists rest
   checks_stop q = ap (λ (z : Answer). after_checks z (rest (parted o b r f l n numbers lengths)) held) (sym q ∙ e)
 
-  module _ (p : a ≡ Accepted) where
+  module _ (p : a ≡ Ok tt) where
     passed_on : rest (parted o b r f l n numbers lengths) ≡ read_lists o b r f l n numbers lengths held
     unfolding read_lists rest
     passed_on = ap (λ (z : Answer). after_checks z (rest (parted o b r f l n numbers lengths)) held) (sym p ∙ e)
 
-    pub lengths_stop : parted o b r f l n numbers lengths ≡ false → outcome (Refused (NotReadable 0 0)) held ≡ read_lists o b r f l n numbers lengths held
+    pub lengths_stop : parted o b r f l n numbers lengths ≡ false → outcome (Err (NotReadable 0 0)) held ≡ read_lists o b r f l n numbers lengths held
     unfolding rest
     lengths_stop q = sym (ap rest q) ∙ passed_on
 

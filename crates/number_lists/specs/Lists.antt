@@ -1,11 +1,9 @@
 -- Number lists, one a function, read back. Paper: "A list of the wrong length is 14 with 0, 0. Else the first number not below the count live
 -- at its place is 14 with the operation and operand plus 1." Here each function's list has its length before any number is judged.
-use Rattle.std.specs.Prelude.{ℕ, Bool, true, false, cond, List, [], ◌∷◌, eqb, length, take, drop}
+use Rattle.std.specs.Prelude.{ℕ, Bool, true, false, cond, List, [], ◌∷◌, eqb, length, take, drop, Ok, Err}
 use Rattle.tables.specs.Tables.{nest}
-use Rattle.tables.specs.Answer.{numbers_of}
+use Rattle.tables.specs.Answer.{numbers_of, Answer}
 use Rattle.tables.specs.declared.Counts.{Counts}
-use Rattle.tables.specs.declared.Answer.{Answer}
-use Rattle.tables.specs.declared.Answer.TheVariants.{Accepted, Refused}
 use Rattle.tables.specs.declared.Refusal.TheVariants.{NotReadable}
 use Rattle.nesting_check.specs.Checks.{nesting_checks}
 use Rattle.read_back.specs.Alone.{Outcome, outcome, after_checks, read_back_alone}
@@ -13,8 +11,8 @@ use Rattle.read_back.specs.Stage.{judged_all}
 
 -- a list of the wrong length is refused with no place: an operand's place is counted from 1
 abbrev pub is_wrong : Answer → Bool
-is_wrong Accepted = false
-is_wrong (Refused why) = eqb (numbers_of why).detail 0
+is_wrong (Ok _) = false
+is_wrong (Err why) = eqb (numbers_of why).detail 0
 
 -- the same counts, of one function
 abbrev pub one_of : Counts → Counts
@@ -47,4 +45,4 @@ parted o b r f l n numbers lengths = cond (eqb n.functions (length lengths)) (al
 unfoldable pub read_lists : List ℕ → List ℕ → List ℕ → List ℕ → List ℕ → Counts → List ℕ → List ℕ → List ℕ → Outcome
 read_lists o b r f l n numbers lengths held =
     let x = nest o b r f l n in
-    after_checks (nesting_checks x) (cond (parted o b r f l n numbers lengths) (read_back_alone x numbers held) (outcome (Refused (NotReadable 0 0)) held)) held
+    after_checks (nesting_checks x) (cond (parted o b r f l n numbers lengths) (read_back_alone x numbers held) (outcome (Err (NotReadable 0 0)) held)) held

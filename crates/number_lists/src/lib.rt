@@ -12,8 +12,8 @@ fn is_wrong(answer: Answer) -> bool
     ensures { result ≡ is_wrong answer }
 {
     match answer {
-        Answer::Accepted => false,
-        Answer::Refused(why) => {
+        Ok(()) => false,
+        Err(why) => {
             let n = tables::numbers_of(why);
             n.detail == 0
         }
@@ -116,11 +116,9 @@ pub fn read_lists(
 ) -> Answer
     ensures { outcome result places.new ≡ read_lists o.now b.now r.now f.now l.now n numbers.now lengths.now places.old }
 {
-    if let Answer::Refused(why) = nesting_check::check_nesting(o, b, r, f, l, n) {
-        return Answer::Refused(why);
-    }
+    nesting_check::check_nesting(o, b, r, f, l, n)?;
     if !lists_fit(o, b, r, f, l, n, numbers, lengths) {
-        return Answer::Refused(Refusal::NotReadable {
+        return Err(Refusal::NotReadable {
             operation: 0,
             place: 0,
         });

@@ -10,7 +10,7 @@ use Rattle.cells.specs.Lists.{below, count}
 use Rattle.cells.proofs.Rows.{lt_or_ge}
 use Rattle.tables.specs.Sizes.{max_values, max_entries, max_functions}
 use Rattle.tables.specs.Tables.{Tables, functions, arguments}
-use Rattle.tables.specs.declared.Answer.TheVariants.{Accepted, Refused as No}
+use Rattle.std.specs.Prelude.{Ok, Err}
 use Rattle.tables.specs.declared.Refusal.{Refusal}
 use Rattle.table_checks.specs.Checks.{table_checks, sheet_checks}
 use Rattle.table_checks.proofs.Laws.{passes_1, passes_4}
@@ -26,7 +26,7 @@ use Rattle.numbering.specs.declared.Numbered.{Numbered}
 use Rattle.numbering.specs.declared.Numbered.TheVariants.{Written, Refused}
 use Rattle.numbering.proofs.Sizes.{all_fit_lem}
 
-module _ (x : Tables) (e : table_checks x ≡ Accepted) where
+module _ (x : Tables) (e : table_checks x ≡ Ok tt) where
   -- a stack with an entry for each value, and lists of the full sizes
   room_of : (k : ℕ) → x.counts.values ≤ k → (numbers lengths : List ℕ) → max_entries ≤ length numbers → max_functions ≤ length lengths
       → Room x (replicate k 0) (replicate k 0) numbers lengths
@@ -86,12 +86,12 @@ module _ (a : Listing ℕ) (ns numbers lengths numbers₀ lengths₀ : List ℕ)
 
 -- ---- called alone
 
-pub alone_stops : (sheet : List ℕ) (x : Tables) (numbers lengths : List ℕ) {why : Refusal} → sheet_checks sheet x ≡ No why
+pub alone_stops : (sheet : List ℕ) (x : Tables) (numbers lengths : List ℕ) {why : Refusal} → sheet_checks sheet x ≡ Err why
     → outcome (Refused why) numbers lengths ≡ numbering_alone sheet x numbers lengths
 unfolding numbering_alone
 alone_stops sheet x numbers lengths e = rw e
 
-pub alone_goes : (sheet : List ℕ) (x : Tables) (numbers lengths : List ℕ) → sheet_checks sheet x ≡ Accepted
+pub alone_goes : (sheet : List ℕ) (x : Tables) (numbers lengths : List ℕ) → sheet_checks sheet x ≡ Ok tt
     → handed (numbering sheet x) (sizes x) numbers lengths ≡ numbering_alone sheet x numbers lengths
 unfolding numbering_alone
 alone_goes sheet x numbers lengths e = rw e

@@ -13,9 +13,7 @@ use Rattle.tables.specs.Place.{position_from}
 use Rattle.tables.specs.Sheet.{fixed_count_in}
 use Rattle.tables.specs.Sizes.{max_depth, max_entries}
 use Rattle.tables.specs.Tables.{Tables, functions, regions, blocks, operations, opcode, operands, result_types}
-use Rattle.tables.specs.declared.Answer.TheVariants.{Accepted}
-use Rattle.tables.specs.declared.Fixed.{Fixed}
-use Rattle.tables.specs.declared.Fixed.TheVariants.{Count, Free}
+use Rattle.std.specs.Prelude.{Ok, Option, Some, None}
 use Rattle.tables.specs.declared.Place.{Place}
 use Rattle.tables.specs.declared.Place.TheVariants.{Result}
 use Rattle.tables.specs.declared.Refusal.{Refusal}
@@ -63,9 +61,9 @@ look_sized live i k (v ∷ vs) =
     (sized_join (found (position_from 0 v live) (NoNumber i k)) (look_up live i (suc k) vs) 1 (length vs) (found_sized (position_from 0 v live) (NoNumber i k)) (look_sized live i (suc k) vs))
     (omega arith)
 
-counted_sized : (f : Fixed) (i n : ℕ) → Sized (counted f i n) 0
-counted_sized Free i n = refl
-counted_sized (Count m) i n = go (eqb m n)
+counted_sized : (f : Option ℕ) (i n : ℕ) → Sized (counted f i n) 0
+counted_sized None i n = refl
+counted_sized (Some m) i n = go (eqb m n)
   where
     go : (t : Bool) → Sized (cond t (fine []) (refused (ResultCount i n))) 0
     go true = refl
@@ -250,7 +248,7 @@ sum_least f g h zero = omega arith
 sum_least f g h (suc n) = omega (arith, sum_least f g h n, h n)
 
 -- "list entries 8,192 in all": where the checks pass, the list of all numbers is no longer
-pub all_fit_lem : (x : Tables) → table_checks x ≡ Accepted → total (size x) (functions x) ≤ max_entries
+pub all_fit_lem : (x : Tables) → table_checks x ≡ Ok tt → total (size x) (functions x) ≤ max_entries
 all_fit_lem x e =
     let s = sum_least (own x) (listed_by_operation x) (λ i. let q = (passes_1 x e).operands_whole i in omega (arith, q)) x.counts.operations in
     omega (arith, order_cost x, sum_within x e (own x), total_sum (own x) x.counts.operations, s, (passes_1 x e).entries_fit)

@@ -1,10 +1,9 @@
 -- Numbering over tables: the answer, and what the two lent lists hold at exit. "Each part called alone asks 1 to 4 first"; "13 last".
-use Rattle.std.specs.Prelude.{ℕ, cond, List, ◌++◌, map, leb, length, drop, replicate}
+use Rattle.std.specs.Prelude.{ℕ, cond, List, ◌++◌, map, leb, length, drop, replicate, Ok, Err}
 use Rattle.cells.specs.Lists.{flat}
 use Rattle.tables.specs.Tables.{Tables, functions, operands}
 use Rattle.tables.specs.declared.Place.{Place}
-use Rattle.tables.specs.declared.Answer.{Answer}
-use Rattle.tables.specs.declared.Answer.TheVariants.{Accepted, Refused as No}
+use Rattle.tables.specs.Answer.{Answer}
 use Rattle.tables.specs.declared.Refusal.TheVariants.{TooShort}
 use Rattle.table_checks.specs.Checks.{sheet_checks}
 use Rattle.nesting.specs.Shape.{Visit, entry_visits}
@@ -50,8 +49,8 @@ handed (refused r) ns numbers lengths = outcome (Refused r) numbers lengths
 
 -- the first refusal of the checks, or what comes after them
 abbrev pub after_checks : Answer → Outcome → List ℕ → List ℕ → Outcome
-after_checks Accepted rest numbers lengths = rest
-after_checks (No r) rest numbers lengths = outcome (Refused r) numbers lengths
+after_checks (Ok _) rest numbers lengths = rest
+after_checks (Err r) rest numbers lengths = outcome (Refused r) numbers lengths
 
 unfoldable pub numbering_alone : List ℕ → Tables → List ℕ → List ℕ → Outcome
 numbering_alone sheet x numbers lengths =

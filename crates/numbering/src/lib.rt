@@ -1,7 +1,7 @@
 // Codes 8, 6, 7 and 13: the numbers of the operands of each function's entry walk, function after function.
 #![tactic(auto)]
 
-ghost use Rattle.std.specs.Prelude.{◌≡◌, List, ℕ, ◌≤◌, length, take};
+ghost use Rattle.std.specs.Prelude.{◌≡◌, List, ℕ, ◌≤◌, length, take, Ok};
 ghost use Rattle.tables.specs.Sizes.{max_entries, max_functions};
 ghost use Rattle.tables.specs.Tables.{lent};
 ghost use Rattle.values.specs.Claims.{Filled};
@@ -82,7 +82,7 @@ fn visit_few(
     numbers: &mut [u64],
     lengths: &mut [u64],
 ) -> Numbered
-    ensures { (t v a : List ℕ) → let x = lent t v o.now a b.now r.now f.now l.now n in table_checks x ≡ Answer.Accepted → Filled x bases.now claims.now → max_entries ≤ length numbers.old → max_functions ≤ length lengths.old → n.values ≤ 512 → Told result (entries_numbered sheet.now x) (sizes x) numbers.new lengths.new numbers.old lengths.old }
+    ensures { (t v a : List ℕ) → let x = lent t v o.now a b.now r.now f.now l.now n in table_checks x ≡ Ok tt → Filled x bases.now claims.now → max_entries ≤ length numbers.old → max_functions ≤ length lengths.old → n.values ≤ 512 → Told result (entries_numbered sheet.now x) (sizes x) numbers.new lengths.new numbers.old lengths.old }
 {
     let mut dense = [0u64; 512];
     let mut sparse = [0u64; 512];
@@ -117,7 +117,7 @@ fn visit_all(
     numbers: &mut [u64],
     lengths: &mut [u64],
 ) -> Numbered
-    ensures { (t v a : List ℕ) → let x = lent t v o.now a b.now r.now f.now l.now n in table_checks x ≡ Answer.Accepted → Filled x bases.now claims.now → max_entries ≤ length numbers.old → max_functions ≤ length lengths.old → Told result (entries_numbered sheet.now x) (sizes x) numbers.new lengths.new numbers.old lengths.old }
+    ensures { (t v a : List ℕ) → let x = lent t v o.now a b.now r.now f.now l.now n in table_checks x ≡ Ok tt → Filled x bases.now claims.now → max_entries ≤ length numbers.old → max_functions ≤ length lengths.old → Told result (entries_numbered sheet.now x) (sizes x) numbers.new lengths.new numbers.old lengths.old }
 {
     if n.values <= FEW_VALUES {
         return visit_few(o, b, r, f, l, n, sheet, bases, claims, numbers, lengths);
@@ -155,7 +155,7 @@ pub fn after_checks(
     numbers: &mut [u64],
     lengths: &mut [u64],
 ) -> Numbered
-    ensures { (t v a : List ℕ) → let x = lent t v o.now a b.now r.now f.now l.now n in table_checks x ≡ Answer.Accepted → Filled x bases.now claims.now → max_entries ≤ length numbers.old → max_functions ≤ length lengths.old → outcome result numbers.new lengths.new ≡ filled_by (numbers_of sheet.now x) (sizes x) numbers.old lengths.old }
+    ensures { (t v a : List ℕ) → let x = lent t v o.now a b.now r.now f.now l.now n in table_checks x ≡ Ok tt → Filled x bases.now claims.now → max_entries ≤ length numbers.old → max_functions ≤ length lengths.old → outcome result numbers.new lengths.new ≡ filled_by (numbers_of sheet.now x) (sizes x) numbers.old lengths.old }
 {
     match visit_all(o, b, r, f, l, n, sheet, bases, claims, numbers, lengths) {
         Numbered::Written { count } => Numbered::Written { count },

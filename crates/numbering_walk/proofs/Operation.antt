@@ -12,8 +12,7 @@ use Rattle.cells.proofs.Parts.{left_step, left_end}
 use Rattle.tables.specs.Place.{position_from}
 use Rattle.tables.specs.Tables.{Tables, operands, result_types}
 use Rattle.tables.specs.Value.{value_of}
-use Rattle.tables.specs.declared.Fixed.{Fixed}
-use Rattle.tables.specs.declared.Fixed.TheVariants.{Count, Free}
+use Rattle.std.specs.Prelude.{Option, Some, None}
 use Rattle.tables.specs.declared.Refusal.{Refusal}
 use Rattle.tables.specs.declared.Refusal.TheVariants.{NoNumber, ResultCount, NoValue}
 use Rattle.values.specs.Claims.{number_of}
@@ -63,14 +62,14 @@ module _ {live : List ℕ} {i : ℕ} {vs : List ℕ} {p : Filled} {held : List �
 
 -- ---- the count
 
-module _ (x : Fixed) (i n : ℕ) where
-  pub count_free : x ≡ Free → fine [] ≡ counted x i n
+module _ (x : Option ℕ) (i n : ℕ) where
+  pub count_free : x ≡ None → fine [] ≡ counted x i n
   count_free e = rw e
 
-  pub count_same : {m c : ℕ} → x ≡ Count m → c ≡ n → m ≡ c → fine [] ≡ counted x i n
+  pub count_same : {m c : ℕ} → x ≡ Some m → c ≡ n → m ≡ c → fine [] ≡ counted x i n
   count_same {m} {c} e ec h = rw (e, eq-eqb m n (h ∙ ec))
 
-  pub count_differs : {m c : ℕ} → x ≡ Count m → c ≡ n → (m ≡ c → ⊥) → refused (ResultCount i c) ≡ counted x i n
+  pub count_differs : {m c : ℕ} → x ≡ Some m → c ≡ n → (m ≡ c → ⊥) → refused (ResultCount i c) ≡ counted x i n
   count_differs {m} {c} e ec h = rw (e, ← ec, ne_eqb m c h)
 
 -- ---- results

@@ -1,11 +1,10 @@
 -- The walk as the code makes it, on the stack of live values: what each visit numbers, what it writes, and what is live after it.
-use Rattle.std.specs.Prelude.{ℕ, ◌+◌, ◌-◌, ◌<◌, ◌≡◌, List, [], length, get_or}
+use Rattle.std.specs.Prelude.{ℕ, ◌+◌, ◌-◌, ◌<◌, ◌≡◌, List, [], length, get_or, Ok, Err}
 use Rattle.tables.specs.Sizes.{max_depth}
 use Rattle.tables.specs.Sheet.{fixed_count_in}
 use Rattle.tables.specs.Tables.{Tables, regions, blocks, opcode, operands, result_types}
 use Rattle.tables.specs.Value.{value_of}
-use Rattle.tables.specs.declared.Answer.{Answer}
-use Rattle.tables.specs.declared.Answer.TheVariants.{Accepted, Refused as No}
+use Rattle.tables.specs.Answer.{Answer}
 use Rattle.values.specs.Claims.{number_of}
 use Rattle.walk.specs.Written.{Filled, filled, push_all}
 use Rattle.nesting.specs.Live.{result_values, valued}
@@ -57,8 +56,8 @@ after x live i = see_all x.counts.values live (result_values x i)
 
 -- a test that writes nothing
 abbrev pub judged : Answer → Listing ℕ
-judged Accepted = fine []
-judged (No r) = refused r
+judged (Ok _) = fine []
+judged (Err r) = refused r
 
 abbrev pub told : Walked → List ℕ → Listing ℕ
 told (Fine s m) zs = fine zs

@@ -71,16 +71,16 @@ fn check_count(o: &[u32], l: &[u64], n: Counts, sheet: &[u64], id: u64) -> Answe
 {
     let count = tables::result_types(o, l, n, id).len() as u64;
     let fixed = tables::fixed_count(sheet, tables::opcode(o, n, id));
-    let Fixed::Count(wanted) = fixed else {
-        return Answer::Accepted;
+    let Some(wanted) = fixed else {
+        return Ok(());
     };
     if wanted != count {
-        return Answer::Refused(Refusal::ResultCount {
+        return Err(Refusal::ResultCount {
             operation: id,
             count,
         });
     }
-    Answer::Accepted
+    Ok(())
 }
 
 // The values of the operation's declared results take the next numbers, or the first result that has none.
@@ -140,7 +140,7 @@ fn open_operation(
             scope: s,
             done: used,
         } => {
-            if let Answer::Refused(why) = check_count(o, l, n, sheet, id) {
+            if let Err(why) = check_count(o, l, n, sheet, id) {
                 return Walked::Refused(why);
             }
             add_results(o, l, n, bases, claims, dense, sparse, s, used, id)

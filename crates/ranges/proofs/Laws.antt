@@ -15,13 +15,12 @@ use Rattle.cells.specs.declared.Span.{Span}
 use Rattle.cells.proofs.Parts.{entries_whole}
 use Rattle.cells.proofs.Rows.{lt_or_ge}
 use Rattle.names.specs.Names.{names}
-use Rattle.tables.specs.Answer.{and_then}
+use Rattle.tables.specs.Answer.{and_then, Answer}
 use Rattle.tables.specs.Layout.{counted_span, result_types_span_in, operands_span_in, regions_span_in, attributes_span_in, arguments_span_in, operations_span_in, blocks_span_in, blocks_in, numbers_span_in, numbers_in, result_types_in, operands_in, regions_in, arguments_in, operations_in, claim_in, claim_flag_in, functions_in}
 use Rattle.tables.specs.Sizes.{max_types, max_values, max_operations, max_attributes, max_blocks, max_regions, max_functions, opcodes, type_table, value_table, operation_table, attribute_table, block_table, region_table, function_table}
 use Rattle.tables.specs.Tables.{Tables, cut, functions, opcode, value_type, claim, claim_flag, attribute_name, attribute_form, attribute_numbers, attribute_absent, result_types_span, operands_span, regions_span, attributes_span, numbers_span, arguments_span, operations_span, blocks_span}
 use Rattle.tables.specs.declared.Claim.TheVariants.{Result, Nothing}
-use Rattle.tables.specs.declared.Answer.{Answer}
-use Rattle.tables.specs.declared.Answer.TheVariants.{Accepted, Refused}
+use Rattle.std.specs.Prelude.{Ok, Err}
 use Rattle.ranges.specs.Entry.{all_below, good_type, good_claim, good_value, good_operation, good_numbers, good_attribute, good_block, good_region}
 use Rattle.ranges.specs.Range.{sum, room_at, listed_by_operation, listed_by_attribute, listed_by_block, listed_by_region, before_attributes, before_blocks, before_regions, stands, refused, first_bad, table_ranges}
 use Rattle.ranges.specs.Part.{good_list}
@@ -31,20 +30,20 @@ use Rattle.ranges.proofs.Tests.{block_tests, operation_tests}
 use Rattle.ranges.proofs.Verdict.{on_types, on_values, on_operations, on_attributes, on_blocks, on_regions, on_functions, from_values, from_operations, from_attributes, from_blocks, from_regions}
 
 -- two answers of which neither refuses, and two tests that hold
-both_accepted : (a b : Answer) → and_then a b ≡ Accepted → (a ≡ Accepted) × (b ≡ Accepted)
-both_accepted Accepted b e = (refl, e)
-both_accepted (Refused r) b e = absurd (let y : ◌≡◌ {A = ℕ} 0 1 = cc in omega arith)
+both_accepted : (a b : Answer) → and_then a b ≡ Ok tt → (a ≡ Ok tt) × (b ≡ Ok tt)
+both_accepted (Ok _) b e = (refl, e)
+both_accepted (Err r) b e = absurd (let y : ◌≡◌ {A = ℕ} 0 1 = cc in omega arith)
 
 both : (a b : Bool) → (a && b) ≡ true → (a ≡ true) × (b ≡ true)
 both a b e = (and-eq-true_iff a b).0 e
 
 -- a table that passes: each entry stands and is good, so the count is within the size
-module _ (table size width : ℕ) (cells : List ℕ) (n : ℕ) (good : ℕ → Bool) (e : first_bad table size width cells n good ≡ Accepted) where
+module _ (table size width : ℕ) (cells : List ℕ) (n : ℕ) (good : ℕ → Bool) (e : first_bad table size width cells n good ≡ Ok tt) where
   none_bad : find (λ i. not (stands size width cells i && good i)) (below n) ≡ none
   unfolding first_bad
   none_bad = by_cases (find (λ i. not (stands size width cells i && good i)) (below n)) e
     where
-      by_cases : (o : Option ℕ) → refused table o ≡ Accepted → o ≡ none
+      by_cases : (o : Option ℕ) → refused table o ≡ Ok tt → o ≡ none
       by_cases none z = refl
       by_cases (some i) z = absurd (let y : ◌≡◌ {A = ℕ} 0 1 = cc in omega arith)
 
@@ -65,7 +64,7 @@ module _ (table size width : ℕ) (cells : List ℕ) (n : ℕ) (good : ℕ → B
 
 -- a table with lists that passes
 entry_held : (table size width : ℕ) (cells : List ℕ) (n : ℕ) (good : ℕ → Bool) (listed : ℕ → ℕ) (before : ℕ)
-    → first_bad table size width cells n (λ i. good i && room_at before listed i) ≡ Accepted
+    → first_bad table size width cells n (λ i. good i && room_at before listed i) ≡ Ok tt
     → (i : ℕ) → i < n → (good i ≡ true) × (room_at before listed i ≡ true)
 entry_held table size width cells n good listed before e i h =
     both (good i) (room_at before listed i) (entry_good table size width cells n (λ k. good k && room_at before listed k) e i h)
@@ -97,25 +96,25 @@ five true true false d e q = absurd (false≢true q)
 five true true true false e q = absurd (false≢true q)
 five true true true true false q = absurd (false≢true q)
 
-module _ (x : Tables) (e : table_ranges x ≡ Accepted) where
+module _ (x : Tables) (e : table_ranges x ≡ Ok tt) where
   -- every table passes
-  types_passed : (on_types x ≡ Accepted) × (from_values x ≡ Accepted)
+  types_passed : (on_types x ≡ Ok tt) × (from_values x ≡ Ok tt)
   unfolding table_ranges
   types_passed = both_accepted (on_types x) (from_values x) e
 
-  values_passed : (on_values x ≡ Accepted) × (from_operations x ≡ Accepted)
+  values_passed : (on_values x ≡ Ok tt) × (from_operations x ≡ Ok tt)
   values_passed = both_accepted (on_values x) (from_operations x) types_passed.1
 
-  operations_passed : (on_operations x ≡ Accepted) × (from_attributes x ≡ Accepted)
+  operations_passed : (on_operations x ≡ Ok tt) × (from_attributes x ≡ Ok tt)
   operations_passed = both_accepted (on_operations x) (from_attributes x) values_passed.1
 
-  attributes_passed : (on_attributes x ≡ Accepted) × (from_blocks x ≡ Accepted)
+  attributes_passed : (on_attributes x ≡ Ok tt) × (from_blocks x ≡ Ok tt)
   attributes_passed = both_accepted (on_attributes x) (from_blocks x) operations_passed.1
 
-  blocks_passed : (on_blocks x ≡ Accepted) × (from_regions x ≡ Accepted)
+  blocks_passed : (on_blocks x ≡ Ok tt) × (from_regions x ≡ Ok tt)
   blocks_passed = both_accepted (on_blocks x) (from_regions x) attributes_passed.1
 
-  regions_passed : (on_regions x ≡ Accepted) × (on_functions x ≡ Accepted)
+  regions_passed : (on_regions x ≡ Ok tt) × (on_functions x ≡ Ok tt)
   regions_passed = both_accepted (on_regions x) (on_functions x) blocks_passed.1
 
   -- every entry that counts is good, and there is room for its lists

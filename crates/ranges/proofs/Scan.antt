@@ -11,8 +11,8 @@ use native.Mathlib.Omega.{arith}
 use borrow.Author.Tests.{le-leb, lt-leb, leb-true, not-false}
 use lib.Dec.{leb}
 use Rattle.cells.proofs.Rows.{lt_or_ge}
-use Rattle.tables.specs.declared.Answer.{Answer}
-use Rattle.tables.specs.declared.Answer.TheVariants.{Accepted}
+use Rattle.tables.specs.Answer.{Answer}
+use Rattle.std.specs.Prelude.{Ok}
 use Rattle.ranges.specs.Range.{sum, room_at, stands, refused, first_bad}
 use Rattle.ranges.specs.Part.{scanned, scan}
 use Rattle.ranges.specs.declared.Scanned.TheVariants.{Good, Bad}
@@ -35,7 +35,7 @@ module _ (table size width : ℕ) (cells : List ℕ) (n : ℕ) (good : ℕ → B
     unfolding first_bad
     check_stop e r er = er ∙ sym (ap (refused table) (pass_stop (bad size width cells good) n i inv h (told ∙ e)))
 
-  pub check_end : n ≤ i → Accepted ≡ first_bad table size width cells n good
+  pub check_end : n ≤ i → Ok tt ≡ first_bad table size width cells n good
   unfolding first_bad
   check_end h = sym (ap (refused table) (pass_end (bad size width cells good) n i inv h))
 

@@ -10,9 +10,8 @@ use lib.ListN.{get_or}
 use Rattle.cells.specs.Lists.{below, find}
 use Rattle.tables.specs.Sizes.{max_types, max_values, max_operations, max_attributes, max_blocks, max_regions, max_functions, type_table, value_table, operation_table, attribute_table, block_table, region_table, function_table}
 use Rattle.tables.specs.Tables.{Tables, functions, value_type, claim, claim_flag}
-use Rattle.tables.specs.Answer.{and_then}
-use Rattle.tables.specs.declared.Answer.{Answer}
-use Rattle.tables.specs.declared.Answer.TheVariants.{Accepted, Refused}
+use Rattle.tables.specs.Answer.{and_then, Answer}
+use Rattle.std.specs.Prelude.{Ok, Err}
 use Rattle.tables.specs.declared.Refusal.{Refusal}
 use Rattle.ranges.specs.Entry.{good_type, good_value, good_operation, good_attribute, good_block, good_region}
 use Rattle.ranges.specs.Range.{sum, room_at, listed_by_operation, listed_by_attribute, listed_by_block, listed_by_region, before_attributes, before_blocks, before_regions, stands, refused, first_bad, table_ranges}
@@ -24,10 +23,10 @@ use Rattle.ranges.proofs.Scan.{bad}
 use Rattle.ranges.proofs.Tests.{claim_same}
 
 -- one answer, then the rest
-passed : (a b : Answer) → a ≡ Accepted → and_then a b ≡ b
+passed : (a b : Answer) → a ≡ Ok tt → and_then a b ≡ b
 passed a b e = ap (λ (c : Answer). and_then c b) e
 
-stopped : (a b : Answer) (r : Refusal) → a ≡ Refused r → and_then a b ≡ Refused r
+stopped : (a b : Answer) (r : Refusal) → a ≡ Err r → and_then a b ≡ Err r
 stopped a b r e = ap (λ (c : Answer). and_then c b) e
 
 -- a table with lists, in the turn of the verdict v with the tables after it, b: a pass that stops gives the verdict, and one that does not
@@ -107,19 +106,19 @@ module _ (x : Tables) where
       (λ i. ap (λ (b : Bool). not (stands max_values 4 x.v i && b)) (value_same i)) (below x.counts.values))
 
   module _ (types : Answer) (e₁ : types ≡ first_bad type_table max_types 16 x.t x.counts.types (good_type (tables_of_types x.t x.counts))) where
-    pub types_stop : (r : Refusal) → types ≡ Refused r → Refused r ≡ table_ranges x
+    pub types_stop : (r : Refusal) → types ≡ Err r → Err r ≡ table_ranges x
     unfolding table_ranges good_type
     types_stop r q = sym (stopped on_types from_values r (sym e₁ ∙ q))
 
-    module _ (q₁ : types ≡ Accepted) (values : Answer) (e₂ : values ≡ first_bad value_table max_values 4 x.v x.counts.values (good_value (tables_of_values x.v x.counts))) where
+    module _ (q₁ : types ≡ Ok tt) (values : Answer) (e₂ : values ≡ first_bad value_table max_values 4 x.v x.counts.values (good_value (tables_of_values x.v x.counts))) where
       types_pass : table_ranges x ≡ from_values
       unfolding table_ranges good_type
       types_pass = passed on_types from_values (sym e₁ ∙ q₁)
 
-      pub values_stop : (r : Refusal) → values ≡ Refused r → Refused r ≡ table_ranges x
+      pub values_stop : (r : Refusal) → values ≡ Err r → Err r ≡ table_ranges x
       values_stop r q = sym (types_pass ∙ stopped on_values from_operations r (sym (e₂ ∙ values_same) ∙ q))
 
-      module _ (q₂ : values ≡ Accepted) (o : Scanned)
+      module _ (q₂ : values ≡ Ok tt) (o : Scanned)
           (e₃ : o ≡ scan max_operations 16 x.o x.counts.operations (good_operation (tables_of_operations x.o x.l x.counts))
           (listed_by_operation (tables_of_operations x.o x.l x.counts)) 0) where
         values_pass : table_ranges x ≡ from_operations

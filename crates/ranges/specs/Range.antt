@@ -1,16 +1,12 @@
 -- Code 1: "a size exceeded, an id out of range | table number, entry". "Tables are numbered from 1 in the order T, V, O, A, B, R, F,
 -- with the sheet as 8; code 1 goes to the first table, then the first entry. Unattached entries are range-checked".
-use Rattle.std.specs.Prelude.{ℕ, zero, suc, ◌+◌, ◌*◌, ◌^◌, Bool, true, ◌&&◌, not, cond, List, length, get_or, ltb, leb}
+use Rattle.std.specs.Prelude.{ℕ, zero, suc, ◌+◌, ◌*◌, ◌^◌, Bool, true, ◌&&◌, not, cond, List, length, get_or, ltb, leb, Option, Some, None, Ok, Err}
 use Rattle.std.proofs.Math.Option.{Option, some, none}
 use Rattle.cells.specs.Lists.{below, find}
 use Rattle.tables.specs.Sizes.{max_types, max_values, max_operations, max_attributes, max_blocks, max_regions, max_functions, max_entries, opcodes, kinds, modes, type_table, value_table, operation_table, attribute_table, block_table, region_table, function_table, sheet_table}
 use Rattle.tables.specs.Tables.{Tables, functions, result_types_span, operands_span, regions_span, numbers_span, arguments_span, operations_span, blocks_span}
 use Rattle.tables.specs.Sheet.{fixed_flag_in, fixed_count_in, mode_mask_in, contained_mask_in, byte_width_in, tile_flag_in}
-use Rattle.tables.specs.Answer.{and_then}
-use Rattle.tables.specs.declared.Fixed.{Fixed}
-use Rattle.tables.specs.declared.Fixed.TheVariants.{Count, Free}
-use Rattle.tables.specs.declared.Answer.{Answer}
-use Rattle.tables.specs.declared.Answer.TheVariants.{Accepted, Refused}
+use Rattle.tables.specs.Answer.{and_then, Answer}
 use Rattle.tables.specs.declared.Refusal.TheVariants.{OutOfRange}
 use Rattle.ranges.specs.Entry.{all, good_type, good_value, good_operation, good_attribute, good_block, good_region}
 
@@ -52,8 +48,8 @@ abbrev pub stands : ℕ → ℕ → List ℕ → ℕ → Bool
 stands size width cells i = ltb i size && leb (suc i * width) (length cells)
 
 abbrev pub refused : ℕ → Option ℕ → Answer
-refused table none = Accepted
-refused table (some i) = Refused (OutOfRange table i)
+refused table none = Ok tt
+refused table (some i) = Err (OutOfRange table i)
 
 unfoldable pub first_bad : ℕ → ℕ → ℕ → List ℕ → ℕ → (ℕ → Bool) → Answer
 first_bad table size width cells n good = refused table (find (λ i. not (stands size width cells i && good i)) (below n))
@@ -78,9 +74,9 @@ table_ranges x =
 abbrev pub sheet_cells : ℕ
 sheet_cells = 320
 
-abbrev pub good_count : Fixed → Bool
-good_count Free = true
-good_count (Count n) = leb n 8192
+abbrev pub good_count : Option ℕ → Bool
+good_count None = true
+good_count (Some n) = leb n 8192
 
 unfoldable pub good_sheet : List ℕ → Bool
 good_sheet s =
@@ -91,4 +87,4 @@ good_sheet s =
     && ltb (tile_flag_in s) 2
 
 unfoldable pub sheet_range : List ℕ → Answer
-sheet_range s = cond (good_sheet s) Accepted (Refused (OutOfRange sheet_table 0))
+sheet_range s = cond (good_sheet s) (Ok tt) (Err (OutOfRange sheet_table 0))

@@ -239,7 +239,7 @@ fn add_region(r: &[u32], n: Counts, id: u64, used: u64) -> u64
 fn out_of_range(table: u64, entry: u64) -> Answer
     ensures { result ≡ refused table (some entry) }
 {
-    Answer::Refused(Refusal::OutOfRange { table, entry })
+    Err(Refusal::OutOfRange { table, entry })
 }
 
 fn check_types(t: &[u64], n: Counts) -> Answer
@@ -253,7 +253,7 @@ fn check_types(t: &[u64], n: Counts) -> Answer
         }
         i += 1;
     }
-    Answer::Accepted
+    Ok(())
 }
 
 fn check_values(v: &[u64], n: Counts) -> Answer
@@ -267,7 +267,7 @@ fn check_values(v: &[u64], n: Counts) -> Answer
         }
         i += 1;
     }
-    Answer::Accepted
+    Ok(())
 }
 
 fn check_functions(f: &[u32], n: Counts) -> Answer
@@ -287,7 +287,7 @@ fn check_functions(f: &[u32], n: Counts) -> Answer
         }
         i += 1;
     }
-    Answer::Accepted
+    Ok(())
 }
 
 fn scan_operations(o: &[u32], l: &[u64], n: Counts, before: u64) -> Scanned
@@ -382,11 +382,11 @@ pub fn check_tables(
 ) -> Answer
     ensures { result ≡ table_ranges (lent t.now v.now o.now a.now b.now r.now f.now l.now n) }
 {
-    if let Answer::Refused(refusal) = check_types(t, n) {
-        return Answer::Refused(refusal);
+    if let Err(refusal) = check_types(t, n) {
+        return Err(refusal);
     }
-    if let Answer::Refused(refusal) = check_values(v, n) {
-        return Answer::Refused(refusal);
+    if let Err(refusal) = check_values(v, n) {
+        return Err(refusal);
     }
     let by_operations = match scan_operations(o, l, n, 0) {
         Scanned::Good(used) => used,
@@ -411,8 +411,8 @@ fn good_count(fixed: Fixed) -> bool
     ensures { result ≡ good_count fixed }
 {
     match fixed {
-        Fixed::Free => true,
-        Fixed::Count(n) => n <= 8192,
+        None => true,
+        Some(n) => n <= 8192,
     }
 }
 
@@ -482,7 +482,7 @@ pub fn check_sheet(sheet: &[u64]) -> Answer
     ensures { result ≡ sheet_range sheet.now }
 {
     if good_sheet(sheet) {
-        return Answer::Accepted;
+        return Ok(());
     }
     out_of_range(tables::SHEET_TABLE, 0)
 }

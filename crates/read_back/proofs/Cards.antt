@@ -5,7 +5,7 @@ use mathlib.Core.List.{List, [], ◌∷◌, ◌++◌}
 use lib.ListN.{replicate}
 use Rattle.tables.specs.Layout.{result_types_span_in, operands_span_in, regions_span_in, regions_in, arguments_span_in, operations_span_in, operations_in, blocks_span_in, blocks_in, functions_in}
 use Rattle.tables.specs.Tables.{Tables, nest}
-use Rattle.tables.specs.declared.Answer.TheVariants.{Accepted, Refused}
+use Rattle.std.specs.Prelude.{Ok, Err}
 use Rattle.tables.specs.declared.Refusal.TheVariants.{OutOfRange, TooShort, NotReadable}
 use Rattle.ranges.specs.Entry.{good_region}
 use Rattle.ranges.specs.Range.{first_bad}
@@ -37,11 +37,11 @@ m last =
 -- there is not
 cards :
     (read_back_alone (m 1) (0 ∷ 1 ∷ 2 ∷ 2 ∷ 0 ∷ 2 ∷ []) (replicate 19 9)
-    ≡ outcome Accepted (0 ∷ 0 ∷ 0 ∷ 0 ∷ 0 ∷ 1 ∷ 1 ∷ 1 ∷ 0 ∷ 1 ∷ 1 ∷ 0 ∷ 0 ∷ 0 ∷ 0 ∷ 1 ∷ 1 ∷ 0 ∷ 9 ∷ []))
-    × (read_back_alone (m 1) (0 ∷ 1 ∷ 2 ∷ 2 ∷ 9 ∷ []) [] ≡ outcome (Refused (NotReadable 0 0)) [])
-    × (read_back_alone (m 1) (0 ∷ 1 ∷ 2 ∷ 2 ∷ 3 ∷ 2 ∷ []) [] ≡ outcome (Refused (NotReadable 3 2)) [])
-    × (read_back_alone (m 1) (0 ∷ 1 ∷ 2 ∷ 2 ∷ 0 ∷ 2 ∷ []) (replicate 17 9) ≡ outcome (Refused (TooShort 18)) (replicate 17 9))
-    × (read_back_alone (m 2) (0 ∷ []) [] ≡ outcome (Refused (OutOfRange 6 1)) [])
+    ≡ outcome (Ok tt) (0 ∷ 0 ∷ 0 ∷ 0 ∷ 0 ∷ 1 ∷ 1 ∷ 1 ∷ 0 ∷ 1 ∷ 1 ∷ 0 ∷ 0 ∷ 0 ∷ 0 ∷ 1 ∷ 1 ∷ 0 ∷ 9 ∷ []))
+    × (read_back_alone (m 1) (0 ∷ 1 ∷ 2 ∷ 2 ∷ 9 ∷ []) [] ≡ outcome (Err (NotReadable 0 0)) [])
+    × (read_back_alone (m 1) (0 ∷ 1 ∷ 2 ∷ 2 ∷ 3 ∷ 2 ∷ []) [] ≡ outcome (Err (NotReadable 3 2)) [])
+    × (read_back_alone (m 1) (0 ∷ 1 ∷ 2 ∷ 2 ∷ 0 ∷ 2 ∷ []) (replicate 17 9) ≡ outcome (Err (TooShort 18)) (replicate 17 9))
+    × (read_back_alone (m 2) (0 ∷ []) [] ≡ outcome (Err (OutOfRange 6 1)) [])
 unfolding m read_back_alone read_back uses spanned placed entries_visits entry_visits region_visits block_visits operation_visits nesting_checks
     nesting_ranges nested_operation nested_block good_region first_bad listed_twice lowest_twice too_deep operation_depth block_depth region_depth
     functions_in blocks_in blocks_span_in operations_in operations_span_in arguments_span_in regions_in regions_span_in operands_span_in result_types_span_in

@@ -4,8 +4,8 @@ use mathlib.Core.Path.{◌≡◌, refl, ap, ◌∙◌}
 use mathlib.Core.List.{List}
 use Prim.Native.Nat.{ℕ}
 use Rattle.tables.specs.Tables.{Tables, lent, nest}
-use Rattle.tables.specs.declared.Answer.{Answer}
-use Rattle.tables.specs.declared.Answer.TheVariants.{Accepted}
+use Rattle.tables.specs.Answer.{Answer}
+use Rattle.std.specs.Prelude.{Ok}
 use Rattle.tables.specs.declared.Counts.{Counts}
 use Rattle.tables.specs.declared.Place.{Place}
 use Rattle.ranges.specs.Entry.{good_region}
@@ -30,7 +30,7 @@ unfolding read_back_alone spanned nesting_checks nesting_ranges nested_operation
 nesting_alone t v o a b r f l n numbers held = refl
 
 -- "Written numbers read back to the defining places."
-pub reads_back : (sheet : List ℕ) (x : Tables) → table_ranges x ≡ Accepted → listed_twice x ≡ Accepted → too_deep x ≡ Accepted → Single x
+pub reads_back : (sheet : List ℕ) (x : Tables) → table_ranges x ≡ Ok tt → listed_twice x ≡ Ok tt → too_deep x ≡ Ok tt → Single x
     → (zs held : List ℕ) → numbering sheet x ≡ fine zs → read_back_alone x zs held ≡ written (fine (operand_places x)) held
 unfolding read_back_alone
 reads_back sheet x one two three four zs held e =

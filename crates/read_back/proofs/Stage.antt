@@ -7,10 +7,9 @@ use mathlib.Core.List.{List, [], ◌∷◌, ◌++◌, map}
 use lib.ListN.{length, get_or}
 use borrow.Author.Tests.{lt-ltb, le-ltb}
 use Rattle.cells.specs.Lists.{from, below}
-use Rattle.tables.specs.Answer.{and_then}
+use Rattle.tables.specs.Answer.{and_then, Answer}
 use Rattle.tables.specs.declared.Place.{Place}
-use Rattle.tables.specs.declared.Answer.{Answer}
-use Rattle.tables.specs.declared.Answer.TheVariants.{Refused}
+use Rattle.std.specs.Prelude.{Err}
 use Rattle.tables.specs.declared.Refusal.TheVariants.{NotReadable}
 use Rattle.ranges.proofs.Find.{from_step, from_end}
 use Rattle.nesting.specs.ReadBack.{Use}
@@ -26,12 +25,12 @@ read_append numbers s (u ∷ us) vs = read_append numbers (read_next numbers u.l
 -- the next number, as the code reads it off the stack
 module _ (numbers stack held : List ℕ) (w : Reading) (i place : ℕ) {live : List Place} (s : Shows stack w.next live) where
   pub none_left : length numbers ≤ w.at
-      → Went (record { next = w.next; at = w.at; answer = Refused (NotReadable 0 0) }) stack held live (read_next numbers live i place (staged w held))
+      → Went (record { next = w.next; at = w.at; answer = Err (NotReadable 0 0) }) stack held live (read_next numbers live i place (staged w held))
   unfolding read_next
   none_left h = record { shows = s; reached = rw (le-ltb w.at (length numbers) h) }
 
   module _ (h : w.at < length numbers) (number : ℕ) (e : number ≡ get_or numbers w.at 0) where
-    pub not_readable : w.next ≤ number → (a : Answer) → a ≡ and_then w.answer (Refused (NotReadable i place))
+    pub not_readable : w.next ≤ number → (a : Answer) → a ≡ and_then w.answer (Err (NotReadable i place))
         → Went (record { next = w.next; at = w.at + 1; answer = a }) stack held live (read_next numbers live i place (staged w held))
     unfolding read_next
     not_readable l a q = record {

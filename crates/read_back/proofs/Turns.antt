@@ -8,8 +8,8 @@ use borrow.Author.Tests.{eq-eqb, ne_eqb, le-leb, lt-leb}
 use Rattle.cells.specs.Lists.{flat}
 use Rattle.tables.specs.Tables.{Tables}
 use Rattle.tables.specs.declared.Place.{Place}
-use Rattle.tables.specs.declared.Answer.{Answer}
-use Rattle.tables.specs.declared.Answer.TheVariants.{Accepted, Refused}
+use Rattle.tables.specs.Answer.{Answer}
+use Rattle.std.specs.Prelude.{Ok, Err}
 use Rattle.tables.specs.declared.Refusal.{Refusal}
 use Rattle.tables.specs.declared.Refusal.TheVariants.{TooShort, NotReadable}
 use Rattle.nesting.specs.Live.{placed}
@@ -26,7 +26,7 @@ use Rattle.read_back.proofs.Whole.{entries_uses_lem, answer_of, read_for, answer
 
 -- ---- where they accept
 
-uses_are : (x : Tables) → nesting_checks x ≡ Accepted → entries_uses x ≡ uses (spanned x)
+uses_are : (x : Tables) → nesting_checks x ≡ Ok tt → entries_uses x ≡ uses (spanned x)
 uses_are x e =
     let p = passed x e in
     entries_uses_lem x (λ u h. room_at x p.0 p.1 u (entry_in (placed (spanned x)) u h))
@@ -34,7 +34,7 @@ uses_are x e =
 -- ---- what is said at the end of the walks
 
 module _ (x : Tables) (numbers held held' : List ℕ) (w : Reading) (e : staged w held' ≡ read_all numbers (start held) (entries_uses x)) where
-  pub count_wrong : (w.at ≡ length numbers → ⊥) → outcome (Refused (NotReadable 0 0)) held' ≡ judged_all x numbers held
+  pub count_wrong : (w.at ≡ length numbers → ⊥) → outcome (Err (NotReadable 0 0)) held' ≡ judged_all x numbers held
   unfolding judged_all
   count_wrong f =
       sym (ap (λ b. outcome b held') (rw (ne_eqb w.at (length numbers) f))) ∙ ap (judged (length numbers)) e
@@ -47,11 +47,11 @@ module _ (x : Tables) (numbers held held' : List ℕ) (w : Reading) (e : staged 
 -- ---- the whole
 
 module _ (x : Tables) (numbers held : List ℕ) (a : Answer) (e : a ≡ nesting_checks x) where
-  pub checks_stop : {r : Refusal} → a ≡ Refused r → outcome (Refused r) held ≡ read_back_alone x numbers held
+  pub checks_stop : {r : Refusal} → a ≡ Err r → outcome (Err r) held ≡ read_back_alone x numbers held
   unfolding read_back_alone
   checks_stop q = ap (λ b. after_checks b (written (read_back (spanned x) numbers) held) held) (sym q ∙ e)
 
-  module _ (p : a ≡ Accepted) where
+  module _ (p : a ≡ Ok tt) where
     read_alone : written (read_for (uses (spanned x)) numbers) held ≡ read_back_alone x numbers held
     unfolding read_back_alone read_back
     read_alone = ap (λ b. after_checks b (written (read_for (uses (spanned x)) numbers) held) held) (sym p ∙ e)
@@ -68,20 +68,20 @@ module _ (x : Tables) (numbers held : List ℕ) (a : Answer) (e : a ≡ nesting_
         ∙ ap (λ (us : List Use). answer_of (read_for us numbers)) same_uses
 
     module _ (h : List ℕ) {b : Answer} {h' : List ℕ} (f : outcome b h' ≡ judged_all x numbers h) where
-      pub judged_stop : {r : Refusal} → b ≡ Refused r → outcome (Refused r) held ≡ read_back_alone x numbers held
+      pub judged_stop : {r : Refusal} → b ≡ Err r → outcome (Err r) held ≡ read_back_alone x numbers held
       judged_stop {r} q =
           sym (ap (λ (l : Listing Place). written l held) (refused_is (uses (spanned x)) numbers r (sym (said h f) ∙ q))) ∙ read_alone
 
-      module _ (q : b ≡ Accepted) where
+      module _ (q : b ≡ Ok tt) where
         reads : (ps : List Place) × Reads (uses (spanned x)) numbers ps
         reads = accepted_is (uses (spanned x)) numbers (sym (said h f) ∙ q)
 
-        pub short_stop : length held < 3 * length numbers → outcome (Refused (TooShort (3 * length numbers))) held ≡ read_back_alone x numbers held
+        pub short_stop : length held < 3 * length numbers → outcome (Err (TooShort (3 * length numbers))) held ≡ read_back_alone x numbers held
         short_stop l =
             let ps = reads.0 in
             let r = reads.1 in
             let n : 3 * length numbers ≡ length (flat three_of ps) = sym r.needed in
-            ap (λ (k : ℕ). outcome (Refused (TooShort k)) held) n
+            ap (λ (k : ℕ). outcome (Err (TooShort k)) held) n
             ∙ sym (rw (lt-leb (length (flat three_of ps)) (length held) (omega arith)))
             ∙ sym (ap (λ (l : Listing Place). written l held) r.are)
             ∙ read_alone
@@ -98,9 +98,9 @@ module _ (x : Tables) (numbers held : List ℕ) (a : Answer) (e : a ≡ nesting_
             ap (λ (o : Outcome). o.list) g
             ∙ ap (λ (us : List Use). (read_all numbers (start held) us).held) same_uses
             ∙ written_is (uses (spanned x)) numbers ps held r l in
-            let k : c ≡ Accepted = said held g ∙ sym (said h f) ∙ q in
+            let k : c ≡ (Ok tt) = said held g ∙ sym (said h f) ∙ q in
             ap (λ (b : Answer). outcome b held') k
-            ∙ ap (λ (z : List ℕ). outcome Accepted z) w
+            ∙ ap (λ (z : List ℕ). outcome (Ok tt) z) w
             ∙ sym (rw (le-leb (length zs) (length held) (omega arith)))
             ∙ sym (ap (λ (l : Listing Place). written l held) r.are)
             ∙ read_alone

@@ -15,10 +15,9 @@ use Rattle.cells.specs.Lists.{flat}
 use Rattle.cells.proofs.Parts.{left_step, left_end}
 use Rattle.cells.proofs.Rows.{lt_or_ge}
 use Rattle.tables.specs.Tables.{Tables}
-use Rattle.tables.specs.Answer.{and_then}
+use Rattle.tables.specs.Answer.{and_then, Answer}
 use Rattle.tables.specs.declared.Place.{Place}
-use Rattle.tables.specs.declared.Answer.{Answer}
-use Rattle.tables.specs.declared.Answer.TheVariants.{Accepted, Refused}
+use Rattle.std.specs.Prelude.{Ok, Err}
 use Rattle.tables.specs.declared.Refusal.{Refusal}
 use Rattle.tables.specs.declared.Refusal.TheVariants.{NotReadable}
 use Rattle.nesting.specs.In.{In}
@@ -58,22 +57,22 @@ entries_uses_lem x fits =
 -- ---- what is said of the list
 
 abbrev pub answer_of : Listing Place → Answer
-answer_of (fine ps) = Accepted
-answer_of (refused r) = Refused r
+answer_of (fine ps) = Ok tt
+answer_of (refused r) = Err r
 
 abbrev wrong : Answer
-wrong = Refused (NotReadable 0 0)
+wrong = Err (NotReadable 0 0)
 
 abbrev said : List ℕ → Stage → Answer
 said numbers s = cond (eqb s.at (length numbers)) s.answer wrong
 
-then_accepted : (a : Answer) → and_then a Accepted ≡ a
-then_accepted Accepted = refl
-then_accepted (Refused r) = refl
+then_accepted : (a : Answer) → and_then a (Ok tt) ≡ a
+then_accepted (Ok _) = refl
+then_accepted (Err r) = refl
 
-then_refused : (a b : Answer) (r : Refusal) → and_then (and_then a (Refused r)) b ≡ and_then a (Refused r)
-then_refused Accepted b r = refl
-then_refused (Refused q) b r = refl
+then_refused : (a b : Answer) (r : Refusal) → and_then (and_then a (Err r)) b ≡ and_then a (Err r)
+then_refused (Ok _) b r = refl
+then_refused (Err q) b r = refl
 
 join_one : (p : Place) (b : Listing Place) → answer_of (join (fine (p ∷ [])) b) ≡ answer_of b
 join_one p (fine ps) = refl
@@ -155,7 +154,7 @@ abbrev pub read_for : List Use → List ℕ → Listing Place
 read_for us numbers = cond (eqb (length numbers) (length us)) (collect read (zip us numbers)) (refused (NotReadable 0 0))
 
 pub answer_is : (numbers : List ℕ) (us : List Use) (held : List ℕ)
-    → cond (eqb (read_all numbers (start held) us).at (length numbers)) (read_all numbers (start held) us).answer (Refused (NotReadable 0 0))
+    → cond (eqb (read_all numbers (start held) us).at (length numbers)) (read_all numbers (start held) us).answer (Err (NotReadable 0 0))
     ≡ answer_of (read_for us numbers)
 answer_is numbers us held =
     all_said numbers us (start held) (omega arith)
@@ -232,22 +231,22 @@ pub record Reads (us : List Use) (numbers : List ℕ) (ps : List Place) : Type 0
   pub needed : length (flat three_of ps) ≡ 3 * length numbers
   pub places : Found us numbers ps
 
-pub refused_is : (us : List Use) (numbers : List ℕ) (r : Refusal) → answer_of (read_for us numbers) ≡ Refused r → read_for us numbers ≡ refused r
+pub refused_is : (us : List Use) (numbers : List ℕ) (r : Refusal) → answer_of (read_for us numbers) ≡ Err r → read_for us numbers ≡ refused r
 refused_is us numbers r e = go (read_for us numbers) refl e
   where
-    go : (l : Listing Place) → read_for us numbers ≡ l → answer_of l ≡ Refused r → l ≡ refused r
+    go : (l : Listing Place) → read_for us numbers ≡ l → answer_of l ≡ Err r → l ≡ refused r
     go (fine ps) q z = let y : ◌≡◌ {A = ℕ} 0 1 = cc in absurd (omega arith)
     go (refused s) q z = let y : s ≡ r = cc in ap refused y
 
-pub accepted_is : (us : List Use) (numbers : List ℕ) → answer_of (read_for us numbers) ≡ Accepted → (ps : List Place) × Reads us numbers ps
+pub accepted_is : (us : List Use) (numbers : List ℕ) → answer_of (read_for us numbers) ≡ Ok tt → (ps : List Place) × Reads us numbers ps
 accepted_is us numbers e = go (eqb (length numbers) (length us)) refl (collect read (zip us numbers)) refl
   where
     go : (b : Bool) → eqb (length numbers) (length us) ≡ b → (l : Listing Place) → collect read (zip us numbers) ≡ l → (ps : List Place) × Reads us numbers ps
     go false q l z =
-        let y : ◌≡◌ {A = Answer} (Refused (NotReadable 0 0)) Accepted = rw q at e in
+        let y : ◌≡◌ {A = Answer} (Err (NotReadable 0 0)) (Ok tt) = rw q at e in
         let k : ◌≡◌ {A = ℕ} 0 1 = cc in absurd (omega arith)
     go true q (refused r) z =
-        let y : ◌≡◌ {A = Answer} (Refused r) Accepted = rw (q, z) at e in
+        let y : ◌≡◌ {A = Answer} (Err r) (Ok tt) = rw (q, z) at e in
         let k : ◌≡◌ {A = ℕ} 0 1 = cc in absurd (omega arith)
     go true q (fine ps) z =
         let f = all_found us numbers ps (eqb-true (length numbers) (length us) q) z in
@@ -257,4 +256,4 @@ pub written_is : (us : List Use) (numbers : List ℕ) (ps : List Place) (held : 
     → (read_all numbers (start held) us).held ≡ flat three_of ps ++ drop (length (flat three_of ps)) held
 written_is us numbers ps held r h =
     let l : 3 * length ps ≤ length held = omega (arith, three_length ps, r.needed) in
-    written_from numbers r.places 0 Accepted [] held refl refl l ∙ ap (λ (c : ℕ). flat three_of ps ++ drop c held) (sym (three_length ps))
+    written_from numbers r.places 0 (Ok tt) [] held refl refl l ∙ ap (λ (c : ℕ). flat three_of ps ++ drop c held) (sym (three_length ps))

@@ -1,12 +1,11 @@
 -- Reading back over tables: the answer, and what the lent list holds. "Reading back uses nesting and counts only"; "Else three numbers
 -- per operand, for the place with its number there: 0 (block) or 1 (operation), its id, the index"; "13 comes last".
-use Rattle.std.specs.Prelude.{ℕ, cond, List, [], ◌∷◌, ◌++◌, leb, length, drop}
+use Rattle.std.specs.Prelude.{ℕ, cond, List, [], ◌∷◌, ◌++◌, leb, length, drop, Ok, Err}
 use Rattle.cells.specs.Lists.{flat}
 use Rattle.tables.specs.Tables.{Tables, functions, regions, blocks, operations, arguments_span, result_types_span, operands_span}
 use Rattle.tables.specs.declared.Place.{Place}
 use Rattle.tables.specs.declared.Place.TheVariants.{Argument, Result, Nowhere}
-use Rattle.tables.specs.declared.Answer.{Answer}
-use Rattle.tables.specs.declared.Answer.TheVariants.{Accepted, Refused}
+use Rattle.tables.specs.Answer.{Answer}
 use Rattle.tables.specs.declared.Refusal.TheVariants.{TooShort}
 use Rattle.nesting.specs.Live.{Nesting}
 use Rattle.nesting.specs.Numbering.{Listing, fine, refused}
@@ -55,15 +54,15 @@ outcome a list = record { answer = a; list = list }
 
 -- a refusal changes nothing; what is written starts at entry 0, and entries past it keep what they held
 abbrev pub written : Listing Place → List ℕ → Outcome
-written (refused r) held = outcome (Refused r) held
+written (refused r) held = outcome (Err r) held
 written (fine ps) held =
     let zs = flat three_of ps in
-    cond (leb (length zs) (length held)) (outcome Accepted (zs ++ drop (length zs) held)) (outcome (Refused (TooShort (length zs))) held)
+    cond (leb (length zs) (length held)) (outcome (Ok tt) (zs ++ drop (length zs) held)) (outcome (Err (TooShort (length zs))) held)
 
 -- the first refusal of the checks, or what comes after them
 abbrev pub after_checks : Answer → Outcome → List ℕ → Outcome
-after_checks Accepted rest held = rest
-after_checks (Refused r) rest held = outcome (Refused r) held
+after_checks (Ok _) rest held = rest
+after_checks (Err r) rest held = outcome (Err r) held
 
 unfoldable pub read_back_alone : Tables → List ℕ → List ℕ → Outcome
 read_back_alone x numbers held = after_checks (nesting_checks x) (written (read_back (spanned x) numbers) held) held

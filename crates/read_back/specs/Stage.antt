@@ -1,12 +1,10 @@
 -- Reading back on the way: how many numbers are read, the first refusal so far, and what the list holds.
-use Rattle.std.specs.Prelude.{ℕ, suc, ◌+◌, ◌≡◌, cond, List, [], ◌∷◌, ◌++◌, ltb, eqb, length, get_or}
+use Rattle.std.specs.Prelude.{ℕ, suc, ◌+◌, ◌≡◌, cond, List, [], ◌∷◌, ◌++◌, ltb, eqb, length, get_or, Ok, Err}
 use Rattle.std.proofs.Math.Option.{Option, some, none}
 use Rattle.cells.specs.Cell.{cell, put_cell}
 use Rattle.tables.specs.Tables.{Tables, regions}
-use Rattle.tables.specs.Answer.{and_then}
+use Rattle.tables.specs.Answer.{and_then, Answer}
 use Rattle.tables.specs.declared.Place.{Place}
-use Rattle.tables.specs.declared.Answer.{Answer}
-use Rattle.tables.specs.declared.Answer.TheVariants.{Accepted, Refused}
 use Rattle.tables.specs.declared.Refusal.TheVariants.{NotReadable}
 use Rattle.nesting.specs.Live.{placed, nth}
 use Rattle.nesting.specs.ReadBack.{Use, uses_at}
@@ -37,12 +35,12 @@ copied_row stack n held k = put_cell 3 (put_cell 3 (put_cell 3 held k 0 (cell 3 
 -- the place that a number names is written; a number not below the count live is the operand's refusal, where there is none yet
 abbrev pub took : Option Place → ℕ → ℕ → Stage → Stage
 took (some p) i place s = stage (s.at + 1) s.answer (put_place s.held s.at p)
-took none i place s = stage (s.at + 1) (and_then s.answer (Refused (NotReadable i place))) s.held
+took none i place s = stage (s.at + 1) (and_then s.answer (Err (NotReadable i place))) s.held
 
 -- the next number, read at operation i; where none is left the list has the wrong length
 unfoldable pub read_next : List ℕ → List Place → ℕ → ℕ → Stage → Stage
 read_next numbers live i place s =
-    cond (ltb s.at (length numbers)) (took (nth live (get_or numbers s.at 0)) i place s) (stage s.at (Refused (NotReadable 0 0)) s.held)
+    cond (ltb s.at (length numbers)) (took (nth live (get_or numbers s.at 0)) i place s) (stage s.at (Err (NotReadable 0 0)) s.held)
 
 abbrev pub read_all : List ℕ → Stage → List Use → Stage
 read_all numbers s [] = s
@@ -50,7 +48,7 @@ read_all numbers s (u ∷ us) = read_all numbers (read_next numbers u.live u.op 
 
 -- nothing is read
 abbrev pub start : List ℕ → Stage
-start held = stage 0 Accepted held
+start held = stage 0 (Ok tt) held
 
 -- an operand of operation i
 abbrev pub use_of : ℕ → List Place → ℕ → Use
@@ -79,7 +77,7 @@ entries_uses x = fold_entries lists grow_all (uses_at (spanned x).operands) (pla
 
 -- what is said at the end: all numbers must have been read
 abbrev pub judged : ℕ → Stage → Outcome
-judged count s = outcome (cond (eqb s.at count) s.answer (Refused (NotReadable 0 0))) s.held
+judged count s = outcome (cond (eqb s.at count) s.answer (Err (NotReadable 0 0))) s.held
 
 unfoldable pub judged_all : Tables → List ℕ → List ℕ → Outcome
 judged_all x numbers held = judged (length numbers) (read_all numbers (start held) (entries_uses x))

@@ -1,7 +1,7 @@
 // Code 14: numbers read back to places, by nesting and counts alone. A first walk judges, a second writes.
 #![tactic(auto)]
 
-ghost use Rattle.std.specs.Prelude.{◌≡◌, List, [], map, ℕ};
+ghost use Rattle.std.specs.Prelude.{◌≡◌, List, [], map, ℕ, Err};
 ghost use Rattle.cells.specs.Lists.{below};
 ghost use Rattle.tables.specs.Tables.{nest};
 ghost use Rattle.tables.specs.Answer.{and_then};
@@ -71,11 +71,11 @@ fn copy_place(stack: &[u64], number: u64, places: &mut [u64], k: u64)
 
 // The first refusal stays.
 fn first_refusal(answer: Answer, operation: u64, place: u64) -> Answer
-    ensures { result ≡ and_then answer (Answer.Refused (Refusal.NotReadable operation place)) }
+    ensures { result ≡ and_then answer (Err (Refusal.NotReadable operation place)) }
 {
     match answer {
-        Answer::Accepted => Answer::Refused(Refusal::NotReadable { operation, place }),
-        Answer::Refused(why) => Answer::Refused(why),
+        Ok(()) => Err(Refusal::NotReadable { operation, place }),
+        Err(why) => Err(why),
     }
 }
 
@@ -97,7 +97,7 @@ fn read_next(
         return Reading {
             next,
             at,
-            answer: Answer::Refused(Refusal::NotReadable {
+            answer: Err(Refusal::NotReadable {
                 operation: 0,
                 place: 0,
             }),
@@ -347,7 +347,7 @@ fn read_functions(
     let mut current = Reading {
         next: 0,
         at: 0,
-        answer: Answer::Accepted,
+        answer: Ok(()),
     };
     let mut i = 0;
     while i < count {
@@ -374,7 +374,7 @@ pub fn read_all(
     let mut stack = [0u64; 24576];
     let last = read_functions(o, b, r, f, l, n, numbers, &mut stack, places);
     if last.at != numbers.len() as u64 {
-        return Answer::Refused(Refusal::NotReadable {
+        return Err(Refusal::NotReadable {
             operation: 0,
             place: 0,
         });
@@ -395,16 +395,12 @@ pub fn read_back(
 ) -> Answer
     ensures { outcome result places.new ≡ read_back_alone (nest o.now b.now r.now f.now l.now n) numbers.now places.old }
 {
-    if let Answer::Refused(why) = nesting_check::check_nesting(o, b, r, f, l, n) {
-        return Answer::Refused(why);
-    }
+    nesting_check::check_nesting(o, b, r, f, l, n)?;
     let mut none = [0u64; 1];
-    if let Answer::Refused(why) = read_all(o, b, r, f, l, n, numbers, &mut none) {
-        return Answer::Refused(why);
-    }
+    read_all(o, b, r, f, l, n, numbers, &mut none)?;
     let needed = PLACE_CELLS * numbers.len() as u64;
     if (places.len() as u64) < needed {
-        return Answer::Refused(Refusal::TooShort { needed });
+        return Err(Refusal::TooShort { needed });
     }
     read_all(o, b, r, f, l, n, numbers, places)
 }

@@ -12,8 +12,8 @@ use borrow.Author.Tests.{ltb-true, leb-true, eqb-true}
 use Rattle.fields.specs.Cut.{split, nth}
 use Rattle.tables.specs.Tables.{Tables, lent}
 use Rattle.tables.specs.declared.Counts.{Counts}
-use Rattle.tables.specs.declared.Answer.{Answer}
-use Rattle.tables.specs.declared.Answer.TheVariants.{Accepted, Refused}
+use Rattle.tables.specs.Answer.{Answer}
+use Rattle.std.specs.Prelude.{Ok, Err}
 use Rattle.tables.specs.declared.Refusal.{Refusal}
 use Rattle.tables.specs.declared.Refusal.TheVariants.{OutOfRange, NotInForm}
 use Rattle.lines.specs.Field.{Read, says, bad}
@@ -106,7 +106,7 @@ both t u e = (and-eq-true_iff t u).0 e
 module _ (P : State → Type 0) where
   -- of a state that is not refused
   abbrev Kept : State → Type 0
-  Kept s = s.answer ≡ Accepted → P s
+  Kept s = s.answer ≡ Ok tt → P s
 
   refused_kept : (q : Refusal) (s : State) → Kept (refuse q s)
   refused_kept q s e = impossible (cc)
@@ -175,7 +175,7 @@ module _ (P : State → Type 0) where
     placed_kept g false i p = refused_kept (NotInForm (suc s.lines) 0) s
 
   -- one line; nothing more is taken after a refusal
-  pub line_cases : (s : State) (line : List ℕ) → (s.answer ≡ Accepted → Cases P s (s.bytes + suc (length line)) (split 9 line)) → Kept (line_of s line)
+  pub line_cases : (s : State) (line : List ℕ) → (s.answer ≡ Ok tt → Cases P s (s.bytes + suc (length line)) (split 9 line)) → Kept (line_of s line)
   unfolding line_of judged
   line_cases s line c = by s.answer refl
     where
@@ -191,16 +191,16 @@ module _ (P : State → Type 0) where
       near d false = placed_kept s end fs d (tag_of (nth 0 fs)) (well_placed (tag_of (nth 0 fs)) fs s.phase) refl refl
 
       by : (q : Answer) → s.answer ≡ q → Kept (onward q s (judged s line))
-      by Accepted e = near (c e) (too_far s end)
-      by (Refused r) e = λ a. impossible (cc)
+      by (Ok _) e = near (c e) (too_far s end)
+      by (Err r) e = λ a. impossible (cc)
 
   -- what follows the last LF: nothing, and there was a line
-  pub last_cases : (s : State) (left : ℕ) → (s.answer ≡ Accepted → 0 < s.lines → P s) → Kept (last_of s left)
+  pub last_cases : (s : State) (left : ℕ) → (s.answer ≡ Ok tt → 0 < s.lines → P s) → Kept (last_of s left)
   last_cases s left f = by s.answer refl (eqb left 0 && ltb 0 s.lines) refl (too_far s (s.bytes + left))
     where
       by : (q : Answer) → s.answer ≡ q → (t : Bool) → eqb left 0 && ltb 0 s.lines ≡ t → (u : Bool)
           → Kept (onward q s (cond t s (cond u (refuse (OutOfRange 0 0) s) (refuse (NotInForm (suc s.lines) 0) s))))
-      by Accepted e true h u = λ a. f e (ltb-true 0 s.lines (both (eqb left 0) (ltb 0 s.lines) h).1)
-      by Accepted e false h true = refused_kept (OutOfRange 0 0) s
-      by Accepted e false h false = refused_kept (NotInForm (suc s.lines) 0) s
-      by (Refused r) e t h u = λ a. impossible (cc)
+      by (Ok _) e true h u = λ a. f e (ltb-true 0 s.lines (both (eqb left 0) (ltb 0 s.lines) h).1)
+      by (Ok _) e false h true = refused_kept (OutOfRange 0 0) s
+      by (Ok _) e false h false = refused_kept (NotInForm (suc s.lines) 0) s
+      by (Err r) e t h u = λ a. impossible (cc)

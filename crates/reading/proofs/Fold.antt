@@ -9,8 +9,8 @@ use lib.ListN.{length}
 use borrow.Author.Tests.{leb-true}
 use Rattle.fields.specs.Cut.{split}
 use Rattle.tables.specs.Tables.{Tables}
-use Rattle.tables.specs.declared.Answer.{Answer}
-use Rattle.tables.specs.declared.Answer.TheVariants.{Accepted, Refused}
+use Rattle.tables.specs.Answer.{Answer}
+use Rattle.std.specs.Prelude.{Ok, Err}
 use Rattle.stores.proofs.Stores.{impossible}
 use Rattle.house.specs.State.{State}
 use Rattle.house.specs.House.{line_of}
@@ -21,7 +21,7 @@ use Rattle.reading.proofs.Held.{Held, none_added, type_held, value_held, functio
 
 -- a state that is not refused
 abbrev pub Kept : State → Type 0
-Kept s = s.answer ≡ Accepted → Held s.entries s.tables
+Kept s = s.answer ≡ Ok tt → Held s.entries s.tables
 
 pub one_line : (s : State) (line : List ℕ) → Kept s → Kept (line_of s line)
 one_line s line h =
@@ -48,11 +48,11 @@ all_lines s (l ∷ m ∷ ls) h = all_lines (line_of s l) (m ∷ ls) (one_line s 
 
 -- ---- the start: every slice is of full size
 
-full : (t : Bool) (size : ℕ) (rest : Answer) → full_size t size rest ≡ Accepted → (t ≡ true) × (rest ≡ Accepted)
+full : (t : Bool) (size : ℕ) (rest : Answer) → full_size t size rest ≡ Ok tt → (t ≡ true) × (rest ≡ Ok tt)
 full true size rest e = (refl, e)
 full false size rest e = impossible (cc)
 
-fresh_held : (x : Tables) → room_in x ≡ Accepted → Held 0 (fresh x).tables
+fresh_held : (x : Tables) → room_in x ≡ Ok tt → Held 0 (fresh x).tables
 unfolding room
 fresh_held x e =
     let t = full (leb 16384 (length x.t)) 1024 _ e in
@@ -80,8 +80,8 @@ pub start_kept : (x : Tables) → Kept (start_of x)
 start_kept x = by (room_in x) refl
   where
     by : (q : Answer) → room_in x ≡ q → Kept (started q (fresh x))
-    by Accepted e = λ a. fresh_held x e
-    by (Refused r) e = λ a. impossible (cc)
+    by (Ok _) e = λ a. fresh_held x e
+    by (Err r) e = λ a. impossible (cc)
 
 pub house_kept : (text : List ℕ) (x : Tables) → Kept (house text x)
 unfolding house

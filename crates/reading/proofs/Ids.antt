@@ -9,12 +9,11 @@ use lib.Dec.{ltb, leb}
 use lib.ListN.{length, get_or, length-take}
 use borrow.Author.Tests.{lt-ltb, le-leb, leb-true, not-true}
 use Rattle.cells.specs.Lists.{from, below, find}
-use Rattle.tables.specs.Answer.{and_then}
+use Rattle.tables.specs.Answer.{and_then, Answer}
 use Rattle.tables.specs.Layout.{functions_in}
 use Rattle.tables.specs.Sizes.{type_table, value_table, operation_table, attribute_table, block_table, region_table, function_table, opcodes, max_types, max_values, max_operations, max_attributes, max_blocks, max_regions, max_functions}
 use Rattle.tables.specs.Tables.{Tables, functions, opcode, result_types, operands, regions, arguments, operations, blocks, value_type, claim, claim_flag, result_types_span, operands_span, regions_span, attributes_span, arguments_span, operations_span}
-use Rattle.tables.specs.declared.Answer.{Answer}
-use Rattle.tables.specs.declared.Answer.TheVariants.{Accepted, Refused}
+use Rattle.std.specs.Prelude.{Ok, Err}
 use Rattle.tables.specs.declared.Refusal.{Refusal}
 use Rattle.tables.specs.declared.Refusal.TheVariants.{OutOfRange}
 use Rattle.tables.specs.declared.Claim.{Claim}
@@ -47,7 +46,7 @@ module _ (table size width : ℕ) (cells : List ℕ) (n : ℕ) (good ids : ℕ �
       (λ i h. rw (e i (omega arith), f i (omega arith))))
 
 -- every entry's ids are in range
-first_none : (table n : ℕ) (ids : ℕ → Bool) → ((i : ℕ) → i < n → ids i ≡ true) → first_out table n ids ≡ Accepted
+first_none : (table n : ℕ) (ids : ℕ → Bool) → ((i : ℕ) → i < n → ids i ≡ true) → first_out table n ids ≡ Ok tt
 first_none table n ids f =
     ap (refused table) (find_same (λ i. not (ids i)) (λ i. not true) 0 n (λ i h. ap not (f i (omega arith))) ∙ find_nothing 0 n)
 
@@ -165,7 +164,7 @@ module _ (x : Tables) (h : Formed x) where
       let s = leb-true (suc p * 1) (length x.f) ((and-eq-true_iff (ltb p 64) (leb (suc p * 1) (length x.f))).0 (h.functions_stand p l)).1 in
       simp length-take (omega arith)
 
-  pub in_range : IdsInRange x → id_ranges x ≡ Accepted
+  pub in_range : IdsInRange x → id_ranges x ≡ Ok tt
   unfolding id_ranges
   in_range d =
       rw (
@@ -195,11 +194,11 @@ find_some p s (suc n) i e = by (p s) refl (λ q. find_some p (suc s) n i q) e
     by true q f h = let same : s ≡ i = cc in (omega arith, ap p (sym same) ∙ q)
     by false q f h = let r = f h in (omega (arith, r.0), r.1)
 
-first_found : (table n : ℕ) (ids : ℕ → Bool) (q : Refusal) → first_out table n ids ≡ Refused q
+first_found : (table n : ℕ) (ids : ℕ → Bool) (q : Refusal) → first_out table n ids ≡ Err q
     → (i : ℕ) × ((i < n) × (ids i ≡ false) × (OutOfRange table i ≡ q))
 first_found table n ids q e = by (find (λ i. not (ids i)) (below n)) refl e
   where
-    by : (o : Option ℕ) → find (λ i. not (ids i)) (below n) ≡ o → refused table o ≡ Refused q
+    by : (o : Option ℕ) → find (λ i. not (ids i)) (below n) ≡ o → refused table o ≡ Err q
         → (i : ℕ) × ((i < n) × (ids i ≡ false) × (OutOfRange table i ≡ q))
     by none r h = impossible (cc)
     by (some i) r h =
@@ -207,11 +206,11 @@ first_found table n ids q e = by (find (λ i. not (ids i)) (below n)) refl e
         (i, (omega (arith, f.0), not-true (ids i) f.1, cc))
 
 -- a refusal of the first of two answers, or of the second
-either_refuses : {P : Type 0} (a b : Answer) (q : Refusal) → (a ≡ Refused q → P) → (b ≡ Refused q → P) → and_then a b ≡ Refused q → P
-either_refuses Accepted b q f g e = g e
-either_refuses (Refused r) b q f g e = f e
+either_refuses : {P : Type 0} (a b : Answer) (q : Refusal) → (a ≡ Err q → P) → (b ≡ Err q → P) → and_then a b ≡ Err q → P
+either_refuses (Ok _) b q f g e = g e
+either_refuses (Err r) b q f g e = f e
 
-pub names_an_id : (x : Tables) (q : Refusal) → id_ranges x ≡ Refused q → NamesAnId x q
+pub names_an_id : (x : Tables) (q : Refusal) → id_ranges x ≡ Err q → NamesAnId x q
 unfolding id_ranges
 names_an_id x q =
     either_refuses (first_out value_table x.counts.values (value_ids x)) _ q

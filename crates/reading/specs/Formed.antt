@@ -4,8 +4,7 @@ use Rattle.std.specs.Prelude.{ℕ, ◌+◌, ◌≤◌, ◌<◌, Bool, true, fals
 use Rattle.cells.specs.Lists.{below, find}
 use Rattle.tables.specs.Sizes.{max_types, max_values, max_operations, max_attributes, max_blocks, max_regions, max_functions, max_entries, opcodes, value_table, operation_table, block_table, region_table, function_table}
 use Rattle.tables.specs.Tables.{Tables, functions, opcode, result_types, operands, regions, arguments, operations, blocks, value_type, claim, claim_flag, result_types_span, operands_span, regions_span, attributes_span, arguments_span, operations_span, blocks_span}
-use Rattle.tables.specs.Answer.{and_then}
-use Rattle.tables.specs.declared.Answer.{Answer}
+use Rattle.tables.specs.Answer.{and_then, Answer}
 use Rattle.tables.specs.declared.Refusal.{Refusal}
 use Rattle.tables.specs.declared.Refusal.TheVariants.{OutOfRange}
 use Rattle.tables.specs.declared.Claim.TheVariants.{Result}

@@ -2,9 +2,8 @@
 use Prim.Native.Nat.{ℕ}
 use mathlib.Core.Path.{◌≡◌, refl, ap, ◌∙◌}
 use mathlib.Core.List.{List, [], ◌∷◌}
-use Rattle.tables.specs.Answer.{and_then, each}
+use Rattle.tables.specs.Answer.{and_then, each, Answer}
 use Rattle.tables.specs.Tables.{Tables}
-use Rattle.tables.specs.declared.Answer.{Answer}
 use Rattle.rules.specs.Operation.{verify_operation, rules}
 use Rattle.rules.proofs.Laws.{bare, operation_bare}
 

@@ -7,11 +7,10 @@ use mathlib.Core.List.{List}
 use lib.ListN.{length, take}
 use Rattle.tables.specs.Sizes.{max_operations}
 use Rattle.tables.specs.Tables.{Tables}
-use Rattle.tables.specs.Answer.{and_then}
-use Rattle.tables.specs.declared.Answer.{Answer}
+use Rattle.tables.specs.Answer.{and_then, Answer}
 use Rattle.tables.specs.declared.Refusal.{Refusal}
 use Rattle.tables.specs.declared.Target.{Target}
-use Rattle.tables.specs.declared.Answer.TheVariants.{Accepted, Refused}
+use Rattle.std.specs.Prelude.{Ok, Err}
 use Rattle.walk.specs.Order.{order}
 use Rattle.table_checks.specs.Checks.{target_check, sheet_checks}
 use Rattle.table_checks.specs.Checked.{Settles}
@@ -27,7 +26,7 @@ module _ (sheet : List ℕ) (x : Tables) {after before : List ℕ} (w : Checked)
     (h : Settles w after before (sheet_checks sheet x) (order x)) where
   pub sheet_order : max_operations ≤ length before → take m after ≡ order x
   sheet_order room =
-      let passed : sheet_checks sheet x ≡ Accepted = fine_is w m e h in
+      let passed : sheet_checks sheet x ≡ (Ok tt) = fine_is w m e h in
       order_is x w m e (settles_as (passed ∙ sym (tables_pass sheet x passed)) h) room
 
 -- the part called alone, by what the code was answered: `got` on the target, then w with the list
@@ -35,12 +34,12 @@ module _ (g : Target) (sheet : List ℕ) (x : Tables) (got : Answer) (t : got �
   abbrev rest : Answer
   rest = and_then (sheet_checks sheet x) (rules g.version sheet x (order x))
 
-  pub alone_no_target : {why : Refusal} → got ≡ Refused why → Refused why ≡ rules_alone g sheet x
+  pub alone_no_target : {why : Refusal} → got ≡ Err why → Err why ≡ rules_alone g sheet x
   unfolding rules_alone
   alone_no_target q = sym (stops got (target_check g) rest t q)
 
-  module _ (ok : got ≡ Accepted) {after before : List ℕ} (w : Checked) (h : Settles w after before (sheet_checks sheet x) (order x)) where
-    pub alone_refused : (why : Refusal) → w ≡ refused why → Refused why ≡ rules_alone g sheet x
+  module _ (ok : got ≡ Ok tt) {after before : List ℕ} (w : Checked) (h : Settles w after before (sheet_checks sheet x) (order x)) where
+    pub alone_refused : (why : Refusal) → w ≡ refused why → Err why ≡ rules_alone g sheet x
     unfolding rules_alone
     alone_refused why e =
         sym (passes got (target_check g) rest t ok ∙ ap (λ (a : Answer). and_then a (rules g.version sheet x (order x))) (refused_is w why e h))

@@ -50,9 +50,7 @@ pub fn check_alone(
 ) -> Answer
     ensures { result ≡ rules_alone g sheet.now (lent t.now v.now o.now a.now b.now r.now f.now l.now n) }
 {
-    if let Answer::Refused(why) = table_checks::check_target(g) {
-        return Answer::Refused(why);
-    }
+    table_checks::check_target(g)?;
     let mut list = [0u64; 2048];
     // The claims are not asked for.
     let mut bases = [0u64; 0];
@@ -72,7 +70,7 @@ pub fn check_alone(
         &mut bases,
         &mut claims,
     ) {
-        Checked::Refused(why) => Answer::Refused(why),
+        Checked::Refused(why) => Err(why),
         Checked::Fine(m) => after_checks(g, t, v, o, a, l, n, sheet, &list, m),
     }
 }

@@ -11,11 +11,10 @@ use borrow.Author.Tests.{eqb-true, eqb-false, le-ltb}
 use Rattle.cells.specs.Lists.{from, below}
 use Rattle.cells.proofs.Parts.{from_length}
 use Rattle.cells.proofs.Rows.{lt_or_ge}
-use Rattle.tables.specs.Answer.{each}
+use Rattle.tables.specs.Answer.{each, Answer}
 use Rattle.tables.specs.Layout.{opcode_in, attributes_in, attributes_span_in}
 use Rattle.tables.specs.Tables.{Tables}
-use Rattle.tables.specs.declared.Answer.{Answer}
-use Rattle.tables.specs.declared.Answer.TheVariants.{Accepted}
+use Rattle.std.specs.Prelude.{Ok}
 use Rattle.tables.proofs.Each.{both_accept, then_accepts}
 use Rattle.lookups.specs.Lookup.{entry_in, flushes_in}
 use Rattle.lookups.specs.Verdict.{fail_if}
@@ -31,17 +30,17 @@ along_length true order = from_length 0 (length order)
 along_length false order = refl
 
 -- accepted of each number in a row
-each_in : (f : ℕ → Answer) (s n i : ℕ) → each f (from s n) ≡ Accepted → s ≤ i → i < s + n → f i ≡ Accepted
+each_in : (f : ℕ → Answer) (s n i : ℕ) → each f (from s n) ≡ Ok tt → s ≤ i → i < s + n → f i ≡ Ok tt
 each_in f s zero i e p q = absurd (omega arith)
 each_in f s (suc n) i e p q =
     let both = both_accept (f s) (each f (from (suc s) n)) e in
     near (eqb s i) refl both.0 (each_in f (suc s) n i both.1)
   where
-    near : (u : Bool) → eqb s i ≡ u → f s ≡ Accepted → (suc s ≤ i → i < suc s + n → f i ≡ Accepted) → f i ≡ Accepted
-    near true u here more = subst (λ (j : ℕ). f j ≡ Accepted) (eqb-true s i u) here
+    near : (u : Bool) → eqb s i ≡ u → f s ≡ Ok tt → (suc s ≤ i → i < suc s + n → f i ≡ Ok tt) → f i ≡ Ok tt
+    near true u here more = subst (λ (j : ℕ). f j ≡ Ok tt) (eqb-true s i u) here
     near false u here more = let d : s ≡ i → ⊥ = eqb-false s i u in more (omega (arith, d)) (omega arith)
 
-each_accepted : (f : ℕ → Answer) → ((i : ℕ) → f i ≡ Accepted) → (xs : List ℕ) → each f xs ≡ Accepted
+each_accepted : (f : ℕ → Answer) → ((i : ℕ) → f i ≡ Ok tt) → (xs : List ℕ) → each f xs ≡ Ok tt
 each_accepted f h [] = refl
 each_accepted f h (x ∷ xs) = then_accepts (h x) (each_accepted f h xs)
 
@@ -56,20 +55,20 @@ module _ (version : ℕ) (sheet : List ℕ) (x : Tables) where
     unfolding attributes_in attributes_span_in
     no_attribute = rw (le-ltb i x.counts.operations h) (omega arith)
 
-    arm : judged i (arm_rule version sheet x i (arm_of (opcode_in x.o x.counts i))) ≡ Accepted
+    arm : judged i (arm_rule version sheet x i (arm_of (opcode_in x.o x.counts i))) ≡ Ok tt
     unfolding arm_of arm_rule
     arm = rw no_code
 
-    closing : judged i (flushed sheet x i) ≡ Accepted
+    closing : judged i (flushed sheet x i) ≡ Ok tt
     unfolding flushed flushes_in entry_in fail_if
     closing = rw no_attribute
 
-    unknown : verify_operation version sheet x i ≡ Accepted
+    unknown : verify_operation version sheet x i ≡ Ok tt
     unfolding verify_operation
     unknown = then_accepts arm closing
 
   pub in_any_order : (order : List ℕ) → x.counts.operations ≤ length order
-      → rules version sheet x (along true order) ≡ Accepted → rules version sheet x order ≡ Accepted
+      → rules version sheet x (along true order) ≡ Ok tt → rules version sheet x order ≡ Ok tt
   unfolding rules
   in_any_order order h e =
       each_accepted (verify_operation version sheet x)

@@ -8,12 +8,11 @@ use Rattle.arith.specs.Signed.{signed_of, fits_width}
 use Rattle.arith.specs.Power.{is_power_of_two, power_below}
 use Rattle.arith.specs.Product.{held, times_of, times_all, product_of}
 use Rattle.names.specs.Names.{flush_to_zero, divisor_form, endpoints_form, bool_form}
-use Rattle.tables.specs.Answer.{numbers_of, three}
+use Rattle.tables.specs.Answer.{numbers_of, three, Answer}
 use Rattle.tables.specs.Layout.{opcode_in, operands_in, operands_span_in, result_types_in, result_types_span_in, attributes_in, attributes_span_in, value_type_in, form_in, kind_in, pointer_in, rank_in, dims_in, name_in, attribute_form_in, numbers_in, numbers_span_in, absent_in}
 use Rattle.tables.specs.Sheet.{byte_width_in, tile_flag_in, tile_through_in}
 use Rattle.tables.specs.Tables.{lent}
-use Rattle.tables.specs.declared.Answer.{Answer}
-use Rattle.tables.specs.declared.Answer.TheVariants.{Accepted, Refused}
+use Rattle.std.specs.Prelude.{Ok, Err}
 use Rattle.tables.specs.declared.Refusal.TheVariants.{RuleBroken, ProductLeaves}
 use Rattle.tables.specs.declared.Counts.{Counts}
 use Rattle.tiles.specs.Kind.{I1, I4, I8, I64, F32, is_integer, bits_in}
@@ -68,7 +67,7 @@ abbrev flushing : ℕ → ℕ → ℕ → Answer
 flushing code kind flag = said code (tile kind []) (tile kind []) flush_to_zero bool_form 0 (flag ∷ [])
 
 abbrev broken : ℕ → Answer
-broken reason = Refused (RuleBroken 0 reason)
+broken reason = Err (RuleBroken 0 reason)
 
 -- 3 AddI has no rule of its own
 abbrev add_i : ℕ
@@ -91,11 +90,11 @@ pub cards :
     ∷ flushing add_i I64 1  -- "the closing flush_to_zero rule is 99"
     ∷ flushing add_fcode I64 1  -- no rounding either: the arm answers first
     ∷ [])
-    ≡ (Accepted ∷ broken 8 ∷ Accepted
-    ∷ Accepted ∷ broken 1 ∷ broken 1 ∷ broken 1
-    ∷ Accepted ∷ broken 3
-    ∷ Accepted ∷ Refused (ProductLeaves 0)
-    ∷ Accepted ∷ Accepted ∷ broken 99 ∷ broken 1
+    ≡ ((Ok tt) ∷ broken 8 ∷ (Ok tt)
+    ∷ (Ok tt) ∷ broken 1 ∷ broken 1 ∷ broken 1
+    ∷ (Ok tt) ∷ broken 3
+    ∷ (Ok tt) ∷ Err (ProductLeaves 0)
+    ∷ (Ok tt) ∷ (Ok tt) ∷ broken 99 ∷ broken 1
     ∷ [])
 unfolding verify_operation arm_of arm_rule add_f flushed shape_in shaped_in valid_in pack_leaves is_packing assume_in attribute_rule number_in has_bit div_by_rule is_divisor_wrong group_rule bounded_rule is_bound_wrong is_outside_width is_reversed fail_if leave_if operand_tile_in operand_type_in result_tile_in result_type_in integer_in flushes_in entry_in is_entry is_taken first_in opcode_in operands_in operands_span_in result_types_in result_types_span_in attributes_in attributes_span_in value_type_in form_in kind_in pointer_in rank_in dims_in name_in attribute_form_in numbers_in numbers_span_in absent_in tile_in cells_of row_tile seen_in eight_of dims_of rank_of is_tile is_number scalar_of has_kind is_integers is_integers_or_pointers is_integer same_element tile_through_in tile_flag_in signed_of fits_width is_power_of_two power_below count_of product_of times_all times_of held is_reshape is_packable bit_count_of is_packed bits_in byte_width_in eq_z
 cards = refl

@@ -1,12 +1,10 @@
 -- The operation rules (codes 11 and 12): "As in source document 000, arm by arm, same walk." `verify_operation` of verify_target.rs: the
 -- match on the opcode, `arm_of` its left sides and `arm_rule` its right sides, and then the closing rule. "11 | an operation rule is broken |
 -- operation, reason", "12 | a shape product leaves i64 | operation, 0".
-use Rattle.std.specs.Prelude.{ℕ, cond, List, [], ◌∷◌}
+use Rattle.std.specs.Prelude.{ℕ, cond, List, [], ◌∷◌, Ok, Err}
 use Rattle.cells.specs.Lists.{mem}
 use Rattle.tables.specs.Tables.{Tables, opcode}
-use Rattle.tables.specs.Answer.{and_then, each}
-use Rattle.tables.specs.declared.Answer.{Answer}
-use Rattle.tables.specs.declared.Answer.TheVariants.{Accepted, Refused}
+use Rattle.tables.specs.Answer.{and_then, each, Answer}
 use Rattle.tables.specs.declared.Refusal.TheVariants.{RuleBroken, ProductLeaves}
 use Rattle.lookups.specs.declared.Verdict.{Verdict}
 use Rattle.lookups.specs.declared.Verdict.TheVariants.{Holds, Broken, Leaves}
@@ -65,9 +63,9 @@ arm_rule version sheet x i Free = Holds
 
 -- 11 with the reason, 12 with 0
 abbrev pub judged : ℕ → Verdict → Answer
-judged i Holds = Accepted
-judged i (Broken reason) = Refused (RuleBroken i reason)
-judged i Leaves = Refused (ProductLeaves i)
+judged i Holds = Ok tt
+judged i (Broken reason) = Err (RuleBroken i reason)
+judged i Leaves = Err (ProductLeaves i)
 
 -- the arm; "the closing flush_to_zero rule is 99"
 unfoldable pub verify_operation : ℕ → List ℕ → Tables → ℕ → Answer

@@ -64,9 +64,9 @@ fn judged(operation: u64, verdict: Verdict) -> Answer
     ensures { result ≡ judged operation verdict }
 {
     match verdict {
-        Verdict::Holds => Answer::Accepted,
-        Verdict::Broken(reason) => Answer::Refused(Refusal::RuleBroken { operation, reason }),
-        Verdict::Leaves => Answer::Refused(Refusal::ProductLeaves { operation }),
+        Verdict::Holds => Ok(()),
+        Verdict::Broken(reason) => Err(Refusal::RuleBroken { operation, reason }),
+        Verdict::Leaves => Err(Refusal::ProductLeaves { operation }),
     }
 }
 
@@ -85,12 +85,10 @@ fn verify_operation(
     ensures { result ≡ verify_operation version sheet.now (lent t.now v.now o.now a.now [] [] [] l.now n) operation }
 {
     let rule = arm_rule(version, t, v, o, a, l, sheet, n, operation);
-    if let Answer::Refused(why) = judged(operation, rule) {
-        return Answer::Refused(why);
-    }
+    judged(operation, rule)?;
     // Many operations have no attribute, so none that flushes: they are not handed on.
     if tables::attributes(o, n, operation).len == 0 {
-        return Answer::Accepted;
+        return Ok(());
     }
     let closing = rules_small::flushed(t, v, o, a, l, sheet, n, operation);
     judged(operation, closing)
@@ -128,12 +126,10 @@ fn rules_along(
     while k < order.len() {
         let operation = operation_at(order, straight, k as u64);
         let said = verify_operation(version, t, v, o, a, l, sheet, n, operation);
-        if let Answer::Refused(why) = said {
-            return Answer::Refused(why);
-        }
+        said?;
         k += 1;
     }
-    Answer::Accepted
+    Ok(())
 }
 
 // The rules of the operations, in the order given: the first refusal. Rows next to each other are read faster than rows in that order, and most
@@ -152,8 +148,8 @@ pub fn check_rules(
     ensures { result ≡ rules version sheet.now (lent t.now v.now o.now a.now [] [] [] l.now n) order.now }
 {
     if n.operations <= order.len() as u64 {
-        if let Answer::Accepted = rules_along(version, t, v, o, a, l, sheet, n, order, true) {
-            return Answer::Accepted;
+        if let Ok(()) = rules_along(version, t, v, o, a, l, sheet, n, order, true) {
+            return Ok(());
         }
     }
     rules_along(version, t, v, o, a, l, sheet, n, order, false)

@@ -8,8 +8,8 @@ use lib.ListN.{length, length-append}
 use Rattle.fields.specs.Cut.{split, until}
 use Rattle.fields.proofs.Parts.{split_cons}
 use Rattle.tables.specs.Tables.{Tables}
-use Rattle.tables.specs.declared.Answer.{Answer}
-use Rattle.tables.specs.declared.Answer.TheVariants.{Accepted, Refused}
+use Rattle.tables.specs.Answer.{Answer}
+use Rattle.std.specs.Prelude.{Ok, Err}
 use Rattle.stores.proofs.Stores.{impossible}
 use Rattle.house.specs.State.{State}
 use Rattle.house.specs.House.{Tag, header, type, value, operation, attribute, block, region, function, line_of}
@@ -41,7 +41,7 @@ pub record Seen (seen : List (List (List ℕ))) (s : State) : Type 0 where
 
 -- a state that is not refused
 abbrev Told : List (List (List ℕ)) → State → Type 0
-Told seen s = s.answer ≡ Accepted → Seen seen s
+Told seen s = s.answer ≡ Ok tt → Seen seen s
 
 -- ---- one line more
 
@@ -151,7 +151,7 @@ pub record Whole (seen : List (List (List ℕ))) (s : State) : Type 0 where
   pub seen_all : Seen seen s
 
 abbrev pub Ended : List (List (List ℕ)) → State → Type 0
-Ended seen s = s.answer ≡ Accepted → Whole seen s
+Ended seen s = s.answer ≡ Ok tt → Whole seen s
 
 all_told : (ls : List (List ℕ)) (s : State) (l : List ℕ) (seen : List (List (List ℕ))) → Kept s → Told seen s
     → Ended (seen ++ cut_lines (l ∷ ls)) (lines_of s (l ∷ ls))
@@ -170,7 +170,7 @@ unfolding with_tag attributes_after
 start_told x = by (room_in x)
   where
     by : (q : Answer) → Told [] (started q (fresh x))
-    by Accepted = λ _. record {
+    by (Ok _) = λ _. record {
       said = record {
         begun = refl;
         h = record { count = refl; each = λ i l. absurd (omega arith) };
@@ -188,7 +188,7 @@ start_told x = by (room_in x)
       ending = λ e. absurd (omega arith);
       all = refl;
     }
-    by (Refused r) = λ a. impossible (cc)
+    by (Err r) = λ a. impossible (cc)
 
 pub house_told : (text : List ℕ) (x : Tables) → Ended (cut_lines (split 10 text)) (house text x)
 unfolding house

@@ -9,7 +9,7 @@ use Rattle.cells.specs.Lists.{from}
 use Rattle.cells.specs.declared.Span.{Span}
 use Rattle.tables.specs.Layout.{attributes_span_in, attributes_in}
 use Rattle.tables.specs.Tables.{Tables, blocks, attributes_span}
-use Rattle.tables.specs.declared.Answer.TheVariants.{Accepted}
+use Rattle.std.specs.Prelude.{Ok}
 use Rattle.lines.specs.Line.{header_line, operation_line, attribute_line, block_line, region_line, function_line}
 use Rattle.module_text.specs.Whole.{house}
 use Rattle.reading.proofs.Rows.{row, span_is}
@@ -22,7 +22,7 @@ use Rattle.said.proofs.Tagged.{tag_text}
 use Rattle.said.proofs.Steps.{Says, first_of, many_of}
 use Rattle.said.proofs.Fold.{house_told}
 
-pub tables_hold : (text : List ℕ) (x : Tables) → (house text x).answer ≡ Accepted → TablesHold text (house text x)
+pub tables_hold : (text : List ℕ) (x : Tables) → (house text x).answer ≡ Ok tt → TablesHold text (house text x)
 unfolding attributes_in attributes_span_in
 tables_hold text x reads =
     let y = (house text x).tables in

@@ -7,7 +7,7 @@ use lib.ListN.{length, get_or, set, length-set}
 use lib.Seq.{get_or-set_same, get_or-set_other}
 use borrow.Author.Tests.{lt-ltb}
 use Rattle.tables.specs.Sheet.{fixed_flag_in, fixed_count_in, mode_mask_in, contained_mask_in, byte_width_in, tile_flag_in}
-use Rattle.tables.specs.declared.Fixed.TheVariants.{Count}
+use Rattle.std.specs.Prelude.{Some}
 use Rattle.sheet.specs.Line.{row, stored}
 
 module _ (s : List ℕ) (h : 320 ≤ length s) (k v : ℕ) where
@@ -32,7 +32,7 @@ module _ (s : List ℕ) (h : 320 ≤ length s) (k v : ℕ) where
   through_back = get_or-set_same s 304 v 0 (omega arith)
 
   -- the flag and the count stand beside each other
-  pub count_back : k < 105 → fixed_count_in (stored (row 2 k v) s) k ≡ Count v
+  pub count_back : k < 105 → fixed_count_in (stored (row 2 k v) s) k ≡ Some v
   unfolding fixed_count_in fixed_flag_in stored
   count_back q =
       let flag : get_or (set (set s (k * 2 + 0) 1) (k * 2 + 1) v) (k * 2 + 0) 0 ≡ 1 =

@@ -8,12 +8,10 @@ use lib.ListN.{replicate, get_or, take, drop}
 use Rattle.names.specs.Names.{bytes}
 use Rattle.fields.specs.Cut.{split, nth, on_first}
 use Rattle.fields.specs.Number.{written, decimal_of, is_decimal, all_digits, value_after, unsigned_of, signed_of}
-use Rattle.tables.specs.Answer.{three, numbers_of}
+use Rattle.tables.specs.Answer.{three, numbers_of, Answer}
 use Rattle.tables.specs.Sheet.{fixed_flag_in, fixed_count_in, mode_mask_in, contained_mask_in, byte_width_in, tile_flag_in, tile_through_in}
-use Rattle.tables.specs.declared.Answer.{Answer}
-use Rattle.tables.specs.declared.Answer.TheVariants.{Accepted, Refused}
+use Rattle.std.specs.Prelude.{Ok, Err, Some, None}
 use Rattle.tables.specs.declared.Numbers.{Numbers}
-use Rattle.tables.specs.declared.Fixed.TheVariants.{Count, Free}
 use Rattle.lines.specs.Into.{left}
 use Rattle.sheet.specs.Line.{sheet_line, keyed_line, through_line, judged, stored}
 use Rattle.sheet.specs.Sheet.{line_of, last_of, lines_of, read_sheet}
@@ -27,14 +25,14 @@ sheet_of : List ℕ → List ℕ
 sheet_of text = (read_sheet text lent).entries
 
 numbers_in : Answer → Numbers
-numbers_in Accepted = three 0 0 0
-numbers_in (Refused r) = numbers_of r
+numbers_in (Ok _) = three 0 0 0
+numbers_in (Err r) = numbers_of r
 
 refusal : String → Numbers
 refusal text = numbers_in (read_sheet (bytes text) lent).answer
 
 -- "missing lines mean none, 0 or absent"
-nothing : read_sheet (bytes "sheet\t1\n") lent ≡ left Accepted (replicate 320 0)
+nothing : read_sheet (bytes "sheet\t1\n") lent ≡ left (Ok tt) (replicate 320 0)
 unfolding lent read_sheet split on_first nth lines_of line_of last_of judged sheet_line keyed_line through_line stored written decimal_of is_decimal all_digits value_after unsigned_of signed_of
 nothing = refl
 
@@ -42,11 +40,11 @@ nothing = refl
 each_kind : List ℕ
 each_kind = bytes "sheet\t1\nc\t3\t1\nc\t104\t-1\nm\t9\t1840\np\t6\t22592\nw\t5\t8\nt\t1\n"
 
-read_each : (read_sheet each_kind lent).answer ≡ Accepted
+read_each : (read_sheet each_kind lent).answer ≡ Ok tt
 unfolding lent each_kind read_sheet split on_first nth lines_of line_of last_of judged sheet_line keyed_line through_line stored written decimal_of is_decimal all_digits value_after unsigned_of signed_of
 read_each = refl
 
-counts_each : map (fixed_count_in (sheet_of each_kind)) (2 ∷ 3 ∷ 104 ∷ []) ≡ Free ∷ Count 1 ∷ Count 0xFFFF_FFFF_FFFF_FFFF ∷ []
+counts_each : map (fixed_count_in (sheet_of each_kind)) (2 ∷ 3 ∷ 104 ∷ []) ≡ None ∷ Some 1 ∷ Some 0xFFFF_FFFF_FFFF_FFFF ∷ []
 unfolding lent sheet_of each_kind read_sheet split on_first nth lines_of line_of last_of judged sheet_line keyed_line through_line stored written decimal_of is_decimal all_digits value_after unsigned_of signed_of fixed_flag_in fixed_count_in mode_mask_in contained_mask_in byte_width_in tile_flag_in tile_through_in
 counts_each = refl
 
@@ -83,7 +81,7 @@ past = refl
 test_sheet : List ℕ
 test_sheet = bytes "sheet\t1\nm\t0\t48\nm\t1\t48\nm\t2\t48\nm\t3\t48\nm\t4\t1472\nm\t5\t48\nm\t6\t48\nm\t7\t48\nm\t8\t48\nm\t9\t1840\np\t6\t22592\np\t7\t55424\np\t8\t56256\np\t9\t56000\np\t10\t65472\np\t11\t18432\np\t12\t20480\np\t13\t8192\np\t14\t16384\np\t15\t55296\nw\t0\t1\nw\t1\t1\nw\t2\t1\nw\t3\t2\nw\t4\t4\nw\t5\t8\nw\t6\t2\nw\t7\t2\nw\t8\t4\nw\t9\t4\nw\t10\t8\nw\t11\t1\nw\t12\t1\nw\t13\t1\nw\t14\t1\nw\t15\t1\nt\t1\n"
 
-read_test : (read_sheet test_sheet lent).answer ≡ Accepted
+read_test : (read_sheet test_sheet lent).answer ≡ Ok tt
 unfolding lent test_sheet read_sheet split on_first nth lines_of line_of last_of judged sheet_line keyed_line through_line stored written decimal_of is_decimal all_digits value_after unsigned_of signed_of
 read_test = refl
 

@@ -12,8 +12,8 @@ use borrow.Author.Tests.{lt-ltb, le-ltb, ne_eqb}
 use Rattle.cells.specs.Cell.{copied}
 use Rattle.fields.specs.Cut.{split, end_from}
 use Rattle.fields.proofs.Parts.{split_cons, end_ge, end_le, at_last, at_more}
-use Rattle.tables.specs.declared.Answer.{Answer}
-use Rattle.tables.specs.declared.Answer.TheVariants.{Accepted, Refused}
+use Rattle.tables.specs.Answer.{Answer}
+use Rattle.std.specs.Prelude.{Ok, Err}
 use Rattle.tables.specs.declared.Refusal.{Refusal}
 use Rattle.tables.specs.declared.Refusal.TheVariants.{OutOfRange, TooShort, NotInForm}
 use Rattle.lines.specs.Field.{Read, says, bad}
@@ -26,31 +26,31 @@ use Rattle.sheet.proofs.Ways.{impossible}
 
 -- ---- what follows the last LF
 module _ (line start end : ℕ) where
-  pub last_far : 65536 < end → Refused (OutOfRange 0 0) ≡ last_answer line start end
+  pub last_far : 65536 < end → Err (OutOfRange 0 0) ≡ last_answer line start end
   unfolding last_answer
   last_far h = rw (lt-ltb 65536 end h)
 
   module _ (h : end ≤ 65536) where
-    pub last_some : start < end → Refused (NotInForm line 0) ≡ last_answer line start end
+    pub last_some : start < end → Err (NotInForm line 0) ≡ last_answer line start end
     unfolding last_answer
     last_some k = rw (le-ltb 65536 end h, lt-ltb start end k)
 
     module _ (k : end ≤ start) where
-      pub last_empty : line < 2 → Refused (NotInForm line 0) ≡ last_answer line start end
+      pub last_empty : line < 2 → Err (NotInForm line 0) ≡ last_answer line start end
       unfolding last_answer
       last_empty q = rw (le-ltb 65536 end h, le-ltb start end k, le-ltb 1 line (omega arith))
 
-      pub last_good : 2 ≤ line → Accepted ≡ last_answer line start end
+      pub last_good : 2 ≤ line → Ok tt ≡ last_answer line start end
       unfolding last_answer
       last_good q = rw (le-ltb 65536 end h, le-ltb start end k, lt-ltb 1 line (omega arith))
 
-last_is : (last key line p : ℕ) (s l : List ℕ) → settled (last_answer line p (p + length l)) s ≡ ended (last_of (state last key line p s Accepted) l)
+last_is : (last key line p : ℕ) (s l : List ℕ) → settled (last_answer line p (p + length l)) s ≡ ended (last_of (state last key line p s (Ok tt)) l)
 unfolding last_answer last_of
 last_is last key line p s [] = by (ltb 65536 (p + 0)) (ltb 1 line) (le-ltb p (p + 0) (omega arith))
   where
     by : (t u : Bool) → ltb p (p + 0) ≡ false
-        → settled (cond t (Refused (OutOfRange 0 0)) (cond (ltb p (p + 0)) (Refused (NotInForm line 0)) (cond u Accepted (Refused (NotInForm line 0))))) s
-        ≡ ended (cond t (refuse (OutOfRange 0 0) (state last key line p s Accepted)) (cond u (state last key line p s Accepted) (refuse (NotInForm line 0) (state last key line p s Accepted))))
+        → settled (cond t (Err (OutOfRange 0 0)) (cond (ltb p (p + 0)) (Err (NotInForm line 0)) (cond u (Ok tt) (Err (NotInForm line 0))))) s
+        ≡ ended (cond t (refuse (OutOfRange 0 0) (state last key line p s (Ok tt))) (cond u (state last key line p s (Ok tt)) (refuse (NotInForm line 0) (state last key line p s (Ok tt)))))
     by true u e = refl
     by false true e = rw e
     by false false e = rw e
@@ -58,15 +58,15 @@ last_is last key line p s (b ∷ l) =
     by (ltb 65536 (p + length (b ∷ l))) (eqb (length (b ∷ l)) 0) (lt-ltb p (p + length (b ∷ l)) (omega arith)) (ne_eqb (length (b ∷ l)) 0 (λ h. omega arith))
   where
     by : (t u : Bool) → ltb p (p + length (b ∷ l)) ≡ true → u ≡ false
-        → settled (cond t (Refused (OutOfRange 0 0)) (cond (ltb p (p + length (b ∷ l))) (Refused (NotInForm line 0)) (cond (ltb 1 line) Accepted (Refused (NotInForm line 0))))) s
-        ≡ ended (cond t (refuse (OutOfRange 0 0) (state last key line p s Accepted)) (cond (u && ltb 1 line) (state last key line p s Accepted) (refuse (NotInForm line 0) (state last key line p s Accepted))))
+        → settled (cond t (Err (OutOfRange 0 0)) (cond (ltb p (p + length (b ∷ l))) (Err (NotInForm line 0)) (cond (ltb 1 line) (Ok tt) (Err (NotInForm line 0))))) s
+        ≡ ended (cond t (refuse (OutOfRange 0 0) (state last key line p s (Ok tt))) (cond (u && ltb 1 line) (state last key line p s (Ok tt)) (refuse (NotInForm line 0) (state last key line p s (Ok tt)))))
     by true u e z = refl
     by false u e z = rw (e, z)
 
 -- ---- one line after another
 
 -- after a refusal nothing more is taken
-refused_stays : (s : State) (r : Refusal) → s.answer ≡ Refused r → (ls : List (List ℕ)) → lines_of s ls ≡ s
+refused_stays : (s : State) (r : Refusal) → s.answer ≡ Err r → (ls : List (List ℕ)) → lines_of s ls ≡ s
 unfolding lines_of line_of last_of
 refused_stays s r e [] = refl
 refused_stays s r e (l ∷ []) = rw e
@@ -84,47 +84,47 @@ lines_last s l ls e = rw e
 
 -- ---- the ways through the loop: a line l from p up to `end`, which counts its LF
 module _ (last key line p : ℕ) (s l : List ℕ) (end : ℕ) (he : p + suc (length l) ≡ end) where
-  line_far : 65536 < end → line_of (state last key line p s Accepted) l ≡ refuse (OutOfRange 0 0) (state last key line p s Accepted)
+  line_far : 65536 < end → line_of (state last key line p s (Ok tt)) l ≡ refuse (OutOfRange 0 0) (state last key line p s (Ok tt))
   unfolding line_of
   line_far h = rw (he, lt-ltb 65536 end h)
 
-  line_near : end ≤ 65536 → line_of (state last key line p s Accepted) l ≡ taken (state last key line p s Accepted) end (judged last key (split 9 l))
+  line_near : end ≤ 65536 → line_of (state last key line p s (Ok tt)) l ≡ taken (state last key line p s (Ok tt)) end (judged last key (split 9 l))
   unfolding line_of
   line_near h = rw (he, le-ltb 65536 end h)
 
   module _ (t : List ℕ) (ls : List (List ℕ)) (el : ls ≡ l ∷ split 10 t) where
-    loop_far : 65536 < end → settled (Refused (OutOfRange 0 0)) s ≡ ended (lines_of (state last key line p s Accepted) ls)
+    loop_far : 65536 < end → settled (Err (OutOfRange 0 0)) s ≡ ended (lines_of (state last key line p s (Ok tt)) ls)
     loop_far h =
-        sym (ap ended (lines_more (state last key line p s Accepted) l t ls el
+        sym (ap ended (lines_more (state last key line p s (Ok tt)) l t ls el
         ∙ ap (λ (x : State). lines_of x (split 10 t)) (line_far h)
-        ∙ refused_stays (refuse (OutOfRange 0 0) (state last key line p s Accepted)) (OutOfRange 0 0) refl (split 10 t)))
+        ∙ refused_stays (refuse (OutOfRange 0 0) (state last key line p s (Ok tt))) (OutOfRange 0 0) refl (split 10 t)))
 
     module _ (h : end ≤ 65536) (w : Line) (s' : List ℕ) (e : left w s' ≡ line_into (judged last key (split 9 l)) s) where
-      loop_bad : (f : ℕ) → w ≡ Bad f → settled (Refused (NotInForm line f)) s' ≡ ended (lines_of (state last key line p s Accepted) ls)
+      loop_bad : (f : ℕ) → w ≡ Bad f → settled (Err (NotInForm line f)) s' ≡ ended (lines_of (state last key line p s (Ok tt)) ls)
       loop_bad f k =
           by (judged last key (split 9 l)) (ap (λ (x : Line). left x s') (sym k) ∙ e)
-          ∙ sym (ap ended (lines_more (state last key line p s Accepted) l t ls el ∙ ap (λ (x : State). lines_of x (split 10 t)) (line_near h)))
+          ∙ sym (ap ended (lines_more (state last key line p s (Ok tt)) l t ls el ∙ ap (λ (x : State). lines_of x (split 10 t)) (line_near h)))
         where
           by : (y : Read Row) → left (Bad f) s' ≡ line_into y s
-              → settled (Refused (NotInForm line f)) s' ≡ ended (lines_of (taken (state last key line p s Accepted) end y) (split 10 t))
+              → settled (Err (NotInForm line f)) s' ≡ ended (lines_of (taken (state last key line p s (Ok tt)) end y) (split 10 t))
           by (bad j) q =
               let told : Bad f ≡ Bad j = ap (λ (x : Left Line). x.answer) q in
               let same : f ≡ j = cc in
               let kept : s' ≡ s = ap (λ (x : Left Line). x.entries) q in
               rw (kept, same)
-              (sym (ap ended (refused_stays (refuse (NotInForm line j) (state last key line p s Accepted)) (NotInForm line j) refl (split 10 t))))
+              (sym (ap ended (refused_stays (refuse (NotInForm line j) (state last key line p s (Ok tt))) (NotInForm line j) refl (split 10 t))))
           by (says v) q =
               let told : Bad f ≡ Took v.kind v.key v.value = ap (λ (x : Left Line). x.answer) q in
               impossible (cc)
 
       loop_row : (kind k v : ℕ) → w ≡ Took kind k v
-          → lines_of (state kind k (line + 1) end s' Accepted) (split 10 t) ≡ lines_of (state last key line p s Accepted) ls
+          → lines_of (state kind k (line + 1) end s' (Ok tt)) (split 10 t) ≡ lines_of (state last key line p s (Ok tt)) ls
       loop_row kind k v q =
           ap (λ (x : State). lines_of x (split 10 t)) (by (judged last key (split 9 l)) (ap (λ (x : Line). left x s') (sym q) ∙ e))
-          ∙ sym (lines_more (state last key line p s Accepted) l t ls el ∙ ap (λ (x : State). lines_of x (split 10 t)) (line_near h))
+          ∙ sym (lines_more (state last key line p s (Ok tt)) l t ls el ∙ ap (λ (x : State). lines_of x (split 10 t)) (line_near h))
         where
           by : (y : Read Row) → left (Took kind k v) s' ≡ line_into y s
-              → state kind k (line + 1) end s' Accepted ≡ taken (state last key line p s Accepted) end y
+              → state kind k (line + 1) end s' (Ok tt) ≡ taken (state last key line p s (Ok tt)) end y
           by (bad j) z = let told : Took kind k v ≡ Bad j = ap (λ (y : Left Line). y.answer) z in impossible (cc)
           by (says x) z =
               let told : Took kind k v ≡ Took x.kind x.key x.value = ap (λ (y : Left Line). y.answer) z in
@@ -134,11 +134,11 @@ module _ (last key line p : ℕ) (s l : List ℕ) (end : ℕ) (he : p + suc (len
               rw (a, b, d, add-one)
 
 loop_last : (last key line p end : ℕ) (s l : List ℕ) (ls : List (List ℕ)) (r : Answer) → ls ≡ l ∷ [] → end ≡ p + length l → r ≡ last_answer line p end
-    → settled r s ≡ ended (lines_of (state last key line p s Accepted) ls)
+    → settled r s ≡ ended (lines_of (state last key line p s (Ok tt)) ls)
 loop_last last key line p end s l ls r el en er =
     ap (λ (x : Answer). settled x s) (er ∙ ap (last_answer line p) en)
     ∙ last_is last key line p s l
-    ∙ sym (ap ended (lines_last (state last key line p s Accepted) l ls el))
+    ∙ sym (ap ended (lines_last (state last key line p s (Ok tt)) l ls el))
 
 -- ---- the same at a cursor p, with the end e that `find` gives
 module _ (last key line p e : ℕ) (s text : List ℕ) (h : p ≤ length text) (at : e ≡ end_from 10 p text) where
@@ -152,14 +152,14 @@ module _ (last key line p e : ℕ) (s text : List ℕ) (h : p ≤ length text) (
       simp (length-take, length-drop) (omega arith)
 
   pub at_end : length text ≤ e → (r : Answer) → r ≡ last_answer line p e
-      → settled r s ≡ ended (lines_of (state last key line p s Accepted) (split 10 (drop p text)))
+      → settled r s ≡ ended (lines_of (state last key line p s (Ok tt)) (split 10 (drop p text)))
   at_end k r er = loop_last last key line p e s here (split 10 (drop p text)) r (at_last 10 p e text h at k) (sym here_long) er
 
   module _ (k : e < length text) where
     counted : p + suc (length here) ≡ e + 1
     counted = let n = here_long in omega arith
 
-    pub at_far : 65536 ≤ e → settled (Refused (OutOfRange 0 0)) s ≡ ended (lines_of (state last key line p s Accepted) (split 10 (drop p text)))
+    pub at_far : 65536 ≤ e → settled (Err (OutOfRange 0 0)) s ≡ ended (lines_of (state last key line p s (Ok tt)) (split 10 (drop p text)))
     at_far n =
         loop_far last key line p s here (e + 1) counted (drop (e + 1) text) (split 10 (drop p text)) (at_more 10 p e text h at k) (omega arith)
 
@@ -168,23 +168,23 @@ module _ (last key line p e : ℕ) (s text : List ℕ) (h : p ≤ length text) (
       told = ew ∙ ap (λ (x : List ℕ). line_into (judged last key (split 9 x)) s) em
 
       pub at_bad : (f : ℕ) → w ≡ Bad f
-          → settled (Refused (NotInForm line f)) s' ≡ ended (lines_of (state last key line p s Accepted) (split 10 (drop p text)))
+          → settled (Err (NotInForm line f)) s' ≡ ended (lines_of (state last key line p s (Ok tt)) (split 10 (drop p text)))
       at_bad =
           loop_bad last key line p s here (e + 1) counted (drop (e + 1) text) (split 10 (drop p text)) (at_more 10 p e text h at k) (omega arith) w s' told
 
       pub at_row : (kind q v : ℕ) → w ≡ Took kind q v
-          → lines_of (state kind q (line + 1) (e + 1) s' Accepted) (split 10 (drop (e + 1) text))
-          ≡ lines_of (state last key line p s Accepted) (split 10 (drop p text))
+          → lines_of (state kind q (line + 1) (e + 1) s' (Ok tt)) (split 10 (drop (e + 1) text))
+          ≡ lines_of (state last key line p s (Ok tt)) (split 10 (drop p text))
       at_row =
           loop_row last key line p s here (e + 1) counted (drop (e + 1) text) (split 10 (drop p text)) (at_more 10 p e text h at k) (omega arith) w s' told
 
 -- ---- the sheet before and after
 
 module _ (a : Answer) (s : List ℕ) where
-  pub settle_kept : a ≡ Accepted → left Accepted s ≡ settled a s
+  pub settle_kept : a ≡ Ok tt → left (Ok tt) s ≡ settled a s
   settle_kept e = rw e
 
-  pub settle_refused : (r : Refusal) (s' : List ℕ) → a ≡ Refused r → s' ≡ zeros s → left (Refused r) s' ≡ settled a s
+  pub settle_refused : (r : Refusal) (s' : List ℕ) → a ≡ Err r → s' ≡ zeros s → left (Err r) s' ≡ settled a s
   settle_refused r s' e k = rw (e, k)
 
 -- zeros copied over the front
@@ -194,7 +194,7 @@ copied_zeros n s h =
     rw (take_all (length s) (replicate n 0) fits, length-replicate {A = ℕ} n 0)
 
 module _ (text s : List ℕ) where
-  pub read_short : (s' : List ℕ) → length s < 320 → s' ≡ zeros s → left (Refused (TooShort 320)) s' ≡ read_sheet text s
+  pub read_short : (s' : List ℕ) → length s < 320 → s' ≡ zeros s → left (Err (TooShort 320)) s' ≡ read_sheet text s
   unfolding read_sheet
   read_short s' h e = rw (lt-ltb (length s) 320 h, e)
 

@@ -1,10 +1,9 @@
 -- A rule sheet's text, line by line. "The first bad line answers, by its leftmost bad field. Field 0 is a wrong number of fields, a line out
 -- of order or a missing last LF; an empty text is 15 with 1, 0. A line reaching past byte 65,536 is 1 with 0, 0 before its other faults."
-use Rattle.std.specs.Prelude.{ℕ, suc, ◌+◌, ◌&&◌, cond, List, [], ◌∷◌, ◌++◌, eqb, ltb, length, replicate, drop}
+use Rattle.std.specs.Prelude.{ℕ, suc, ◌+◌, ◌&&◌, cond, List, [], ◌∷◌, ◌++◌, eqb, ltb, length, replicate, drop, Ok, Err}
 use Rattle.fields.specs.Cut.{split}
 use Rattle.tables.specs.Sizes.{max_text}
-use Rattle.tables.specs.declared.Answer.{Answer}
-use Rattle.tables.specs.declared.Answer.TheVariants.{Accepted, Refused}
+use Rattle.tables.specs.Answer.{Answer}
 use Rattle.tables.specs.declared.Refusal.{Refusal}
 use Rattle.tables.specs.declared.Refusal.TheVariants.{OutOfRange, TooShort, NotInForm}
 use Rattle.lines.specs.Field.{Read, says, bad}
@@ -30,18 +29,18 @@ abbrev pub zeros : List ℕ → List ℕ
 zeros xs = replicate (length xs) 0
 
 abbrev pub refuse : Refusal → State → State
-refuse r s = state 0 0 0 0 (zeros s.sheet) (Refused r)
+refuse r s = state 0 0 0 0 (zeros s.sheet) (Err r)
 
 -- ---- one line, without its LF, which counts
 
 -- a field fault, or what the line says, in its cells; `end` bytes are read then
 abbrev pub taken : State → ℕ → Read Row → State
 taken s end (bad k) = refuse (NotInForm s.line k) s
-taken s end (says w) = state w.kind w.key (suc s.line) end (stored w s.sheet) Accepted
+taken s end (says w) = state w.kind w.key (suc s.line) end (stored w s.sheet) (Ok tt)
 
 abbrev pub onward : Answer → State → State → State
-onward Accepted s next = next
-onward (Refused r) s next = s
+onward (Ok _) s next = next
+onward (Err r) s next = s
 
 unfoldable pub line_of : State → List ℕ → State
 line_of s line =
@@ -71,7 +70,7 @@ abbrev pub blank : List ℕ → List ℕ
 blank s = replicate sheet_cells 0 ++ drop sheet_cells s
 
 abbrev pub fresh : List ℕ → State
-fresh s = state 0 0 1 0 s Accepted
+fresh s = state 0 0 1 0 s (Ok tt)
 
 -- the answer, and the lent sheet as it is left
 abbrev pub ended : State → Left Answer
@@ -80,18 +79,18 @@ ended s = left s.answer s.sheet
 -- "The first lent table below full size gives 13 with that size before any line."
 unfoldable pub read_sheet : List ℕ → List ℕ → Left Answer
 read_sheet text s =
-    cond (ltb (length s) sheet_cells) (left (Refused (TooShort sheet_cells)) (zeros s))
+    cond (ltb (length s) sheet_cells) (left (Err (TooShort sheet_cells)) (zeros s))
     (ended (lines_of (fresh (blank s)) (split 10 text)))
 
 -- ---- in two steps: the reading, and the zeros after a refusal
 
 abbrev pub settled : Answer → List ℕ → Left Answer
-settled Accepted s = left Accepted s
-settled (Refused r) s = left (Refused r) (zeros s)
+settled (Ok _) s = left (Ok tt) s
+settled (Err r) s = left (Err r) (zeros s)
 
 -- what follows the last LF, by the bytes before it and those of the text
 unfoldable pub last_answer : ℕ → ℕ → ℕ → Answer
 last_answer line start end =
-    cond (ltb max_text end) (Refused (OutOfRange 0 0))
-    (cond (ltb start end) (Refused (NotInForm line 0))
-    (cond (ltb 1 line) Accepted (Refused (NotInForm line 0))))
+    cond (ltb max_text end) (Err (OutOfRange 0 0))
+    (cond (ltb start end) (Err (NotInForm line 0))
+    (cond (ltb 1 line) (Ok tt) (Err (NotInForm line 0))))

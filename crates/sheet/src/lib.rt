@@ -241,15 +241,15 @@ fn last_line(line: u64, start: u64, end: u64) -> Answer
     ensures { result ≡ last_answer line start end }
 {
     if tables::MAX_TEXT < end {
-        return Answer::Refused(Refusal::OutOfRange { table: 0, entry: 0 });
+        return Err(Refusal::OutOfRange { table: 0, entry: 0 });
     }
     if start < end {
-        return Answer::Refused(Refusal::NotInForm { line, field: 0 });
+        return Err(Refusal::NotInForm { line, field: 0 });
     }
     if line < 2 {
-        return Answer::Refused(Refusal::NotInForm { line, field: 0 });
+        return Err(Refusal::NotInForm { line, field: 0 });
     }
-    Answer::Accepted
+    Ok(())
 }
 
 // All lines, before a refusal zeroes the sheet.
@@ -266,12 +266,12 @@ fn read_lines(text: &[u8], sheet: &mut [u64]) -> Answer
             return last_line(line, p, e);
         }
         if tables::MAX_TEXT <= e {
-            return Answer::Refused(Refusal::OutOfRange { table: 0, entry: 0 });
+            return Err(Refusal::OutOfRange { table: 0, entry: 0 });
         }
         let w = take_line(fields::between(text, p, e), last, key, sheet);
         match w {
             Line::Bad(field) => {
-                return Answer::Refused(Refusal::NotInForm { line, field });
+                return Err(Refusal::NotInForm { line, field });
             }
             Line::Row {
                 kind,
@@ -292,10 +292,10 @@ fn settle(answer: Answer, sheet: &mut [u64]) -> Answer
     ensures { left result sheet.new ≡ settled answer sheet.old }
 {
     match answer {
-        Answer::Accepted => Answer::Accepted,
-        Answer::Refused(refusal) => {
+        Ok(()) => Ok(()),
+        Err(refusal) => {
             cells::clear(sheet);
-            Answer::Refused(refusal)
+            Err(refusal)
         }
     }
 }
@@ -306,7 +306,7 @@ pub fn read_sheet(text: &[u8], sheet: &mut [u64]) -> Answer
 {
     if (sheet.len() as u64) < tables::SHEET_CELLS {
         cells::clear(sheet);
-        return Answer::Refused(Refusal::TooShort {
+        return Err(Refusal::TooShort {
             needed: tables::SHEET_CELLS,
         });
     }

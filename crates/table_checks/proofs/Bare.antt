@@ -9,10 +9,9 @@ use lib.Dec.{leb}
 use lib.ListN.{length}
 use Rattle.tables.specs.Sizes.{max_entries}
 use Rattle.tables.specs.Tables.{Tables, lent, nest, cut, result_types}
-use Rattle.tables.specs.Answer.{and_then}
+use Rattle.tables.specs.Answer.{and_then, Answer}
 use Rattle.tables.specs.declared.Counts.{Counts}
-use Rattle.tables.specs.declared.Answer.{Answer}
-use Rattle.tables.specs.declared.Answer.TheVariants.{Accepted}
+use Rattle.std.specs.Prelude.{Ok}
 use Rattle.ranges.specs.Range.{sum, listed_by_operation, table_ranges}
 use Rattle.ranges.specs.Ranged.{Ranged}
 use Rattle.ranges.proofs.Laws.{ranged, cut_is}
@@ -42,7 +41,7 @@ module _ (t v o a b r f l : List ℕ) (n : Counts) where
   pub values_bare : guarded_twice (cut (lent [] v o [] b [] [] l n)) ≡ guarded_twice (cut (lent t v o a b r f l n))
   values_bare =
       let y = cut (lent t v o a b r f l n) in
-      ap (λ (q : Answer). cond (leb (declared_in y y.counts.operations) max_entries) q Accepted) (bare_twice y)
+      ap (λ (q : Answer). cond (leb (declared_in y y.counts.operations) max_entries) q (Ok tt)) (bare_twice y)
 
 -- no more results are declared than lists have entries
 sum_less : (f g : ℕ → ℕ) → ((i : ℕ) → f i ≤ g i) → (n : ℕ) → sum_below f n ≤ sum g n
@@ -55,7 +54,7 @@ few_results x h =
     (λ i. let e = h.result_types_whole i in omega (arith, e)) x.counts.operations in
     omega (arith, s, h.entries_fit)
 
-pub after_is : (x : Tables) → table_ranges x ≡ Accepted → after_cut x ≡ after_ranges x
+pub after_is : (x : Tables) → table_ranges x ≡ Ok tt → after_cut x ≡ after_ranges x
 after_is x e =
     let h = ranged x e in
     let c = cut_is x h in
@@ -63,7 +62,7 @@ after_is x e =
     ∙ ap (λ (q : Answer). and_then (listed_twice x) (and_then (too_deep x) q)) (guard_holds x (few_results x h))
 
 -- the cells as they were filled on the cut counts are those of the whole ones
-pub filled_is : (x : Tables) → table_ranges x ≡ Accepted → (bases cells : List ℕ)
+pub filled_is : (x : Tables) → table_ranges x ≡ Ok tt → (bases cells : List ℕ)
     → (declared_in (cut x) (cut x).counts.operations ≤ max_entries → Filled (cut x) bases cells) → Filled x bases cells
 filled_is x e bases cells h =
     let r = ranged x e in

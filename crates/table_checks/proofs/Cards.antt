@@ -5,7 +5,7 @@ use mathlib.Core.List.{List, [], ◌∷◌}
 use Rattle.tables.specs.Layout.{opcode_in, result_types_span_in, result_types_in, operands_span_in, operands_in, regions_span_in, regions_in, attributes_span_in, arguments_span_in, arguments_in, operations_span_in, operations_in, blocks_span_in, blocks_in, functions_in, value_type_in, claim_flag_in, claim_in, form_in, kind_in, pointer_in, padded_in, sparse_in, rank_in, dims_in}
 use Rattle.tables.specs.Tables.{Tables, lent}
 use Rattle.tables.specs.declared.Counts.{Counts}
-use Rattle.tables.specs.declared.Answer.TheVariants.{Accepted, Refused}
+use Rattle.std.specs.Prelude.{Ok, Err}
 use Rattle.tables.specs.declared.Refusal.TheVariants.{DefinedTwice}
 use Rattle.ranges.specs.Entry.{good_type, good_value, good_operation, good_attribute, good_block, good_region}
 use Rattle.ranges.specs.Range.{first_bad, table_ranges}
@@ -48,7 +48,7 @@ twice =
     (0 ∷ 0 ∷ 0 ∷ 1 ∷ 2 ∷ 1 ∷ 0 ∷ 2 ∷ 0 ∷ 2 ∷ 0 ∷ 1 ∷ 0 ∷ 1 ∷ 2 ∷ 4 ∷ 3 ∷ 0 ∷ 1 ∷ [])
     (counts 1)
 
-case_m : table_checks (m 1) ≡ Accepted
+case_m : table_checks (m 1) ≡ Ok tt
 unfolding m counts types values opcode_in result_types_span_in result_types_in operands_span_in operands_in regions_span_in regions_in attributes_span_in arguments_span_in arguments_in operations_span_in operations_in blocks_span_in blocks_in functions_in value_type_in claim_flag_in claim_in form_in kind_in pointer_in padded_in sparse_in rank_in dims_in good_type good_value good_operation good_attribute good_block good_region first_bad table_ranges lowest_twice listed_twice operation_depth block_depth region_depth too_deep defined_twice values_twice table_checks
 case_m = refl
 
@@ -56,10 +56,10 @@ its_order : order (m 1) ≡ 0 ∷ 1 ∷ 2 ∷ 3 ∷ 4 ∷ []
 unfolding m counts types values regions_span_in regions_in operations_span_in operations_in blocks_span_in blocks_in functions_in operation_order block_order region_order order_to
 its_order = refl
 
-card_5 : table_checks (m 0) ≡ Accepted
+card_5 : table_checks (m 0) ≡ Ok tt
 unfolding m counts types values opcode_in result_types_span_in result_types_in operands_span_in operands_in regions_span_in regions_in attributes_span_in arguments_span_in arguments_in operations_span_in operations_in blocks_span_in blocks_in functions_in value_type_in claim_flag_in claim_in form_in kind_in pointer_in padded_in sparse_in rank_in dims_in good_type good_value good_operation good_attribute good_block good_region first_bad table_ranges lowest_twice listed_twice operation_depth block_depth region_depth too_deep defined_twice values_twice table_checks
 card_5 = refl
 
-card_6 : table_checks twice ≡ Refused (DefinedTwice 0)
+card_6 : table_checks twice ≡ Err (DefinedTwice 0)
 unfolding twice counts types values opcode_in result_types_span_in result_types_in operands_span_in operands_in regions_span_in regions_in attributes_span_in arguments_span_in arguments_in operations_span_in operations_in blocks_span_in blocks_in functions_in value_type_in claim_flag_in claim_in form_in kind_in pointer_in padded_in sparse_in rank_in dims_in good_type good_value good_operation good_attribute good_block good_region first_bad table_ranges lowest_twice listed_twice operation_depth block_depth region_depth too_deep defined_twice values_twice table_checks
 card_6 = refl

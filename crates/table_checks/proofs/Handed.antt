@@ -9,8 +9,8 @@ use lib.Seq.{take-append_seam}
 use Rattle.tables.specs.Sizes.{max_operations, max_entries}
 use Rattle.tables.specs.Tables.{Tables, result_types}
 use Rattle.tables.specs.Value.{value_of}
-use Rattle.tables.specs.declared.Answer.{Answer}
-use Rattle.tables.specs.declared.Answer.TheVariants.{Accepted, Refused}
+use Rattle.tables.specs.Answer.{Answer}
+use Rattle.std.specs.Prelude.{Ok, Err}
 use Rattle.tables.specs.declared.Refusal.{Refusal}
 use Rattle.walk.specs.Order.{order}
 use Rattle.walk.specs.Written.{Filled, filled, walked}
@@ -25,16 +25,16 @@ use Rattle.table_checks.proofs.Bare.{few_results}
 use Rattle.table_checks.proofs.Laws.{passes_1}
 use Rattle.table_checks.proofs.Reach.{order_fits}
 
-pub refused_is : {after before xs : List ℕ} {a : Answer} (w : Checked) (why : Refusal) → w ≡ refused why → Settles w after before a xs → a ≡ Refused why
+pub refused_is : {after before xs : List ℕ} {a : Answer} (w : Checked) (why : Refusal) → w ≡ refused why → Settles w after before a xs → a ≡ Err why
 refused_is w why e h = sym h.answer ∙ ap answer_of e
 
-pub fine_is : {after before xs : List ℕ} {a : Answer} (w : Checked) (m : ℕ) → w ≡ Fine m → Settles w after before a xs → a ≡ Accepted
+pub fine_is : {after before xs : List ℕ} {a : Answer} (w : Checked) (m : ℕ) → w ≡ Fine m → Settles w after before a xs → a ≡ Ok tt
 fine_is w m e h = sym h.answer ∙ ap answer_of e
 
 module _ (x : Tables) {after before : List ℕ} (w : Checked) (m : ℕ) (e : w ≡ Fine m) (h : Settles w after before (table_checks x) (order x)) where
   pub order_is : max_operations ≤ length before → take m after ≡ order x
   order_is room =
-      let passed : table_checks x ≡ Accepted = fine_is w m e h in
+      let passed : table_checks x ≡ (Ok tt) = fine_is w m e h in
       let few : length (order x) ≤ length before = omega (arith, order_fits x passed, (passes_1 x passed).operations_fit) in
       let f : filled after m ≡ filled (order x ++ drop (length (order x)) before) (length (order x)) =
       ap (λ (v : Checked). filled after (wrote v)) (sym e) ∙ h.list
@@ -43,7 +43,7 @@ module _ (x : Tables) {after before : List ℕ} (w : Checked) (m : ℕ) (e : w �
       let used : m ≡ length (order x) = ap (λ (p : Filled). p.used) f in
       rw (used, held) (take-append_seam (order x) (drop (length (order x)) before))
 
-module _ (x : Tables) (passed : table_checks x ≡ Accepted) (bases cells : List ℕ) (h : Claims x bases cells) where
+module _ (x : Tables) (passed : table_checks x ≡ Ok tt) (bases cells : List ℕ) (h : Claims x bases cells) where
   pub claims_tell : (i k : ℕ) → k < length (result_types x i) → get_or cells (get_or bases i 0 + k) 0 ≡ number_of (value_of x i k)
   claims_tell i k l =
       let few = few_results x (passes_1 x passed) in

@@ -4,9 +4,8 @@ use native.Mathlib.Omega.{arith}
 use mathlib.Core.Path.{◌≡◌}
 use mathlib.Core.List.{List}
 use Rattle.tables.specs.Tables.{Tables}
-use Rattle.tables.specs.Answer.{and_then}
-use Rattle.tables.specs.declared.Answer.{Answer}
-use Rattle.tables.specs.declared.Answer.TheVariants.{Accepted, Refused}
+use Rattle.tables.specs.Answer.{and_then, Answer}
+use Rattle.std.specs.Prelude.{Ok, Err}
 use Rattle.listed.proofs.Answers.{both_accept}
 use Rattle.ranges.specs.Range.{table_ranges, sheet_range}
 use Rattle.ranges.specs.Ranged.{Ranged}
@@ -21,17 +20,17 @@ use Rattle.values.proofs.Laws.{single}
 use Rattle.table_checks.specs.Checks.{after_ranges, table_checks, sheet_checks}
 
 -- of three in turn, all accept: so do the first and the last
-outer : (p q r : Answer) → and_then p (and_then q r) ≡ Accepted → and_then p r ≡ Accepted
-outer Accepted Accepted r e = e
-outer Accepted (Refused why) r e = absurd (let z : ◌≡◌ {A = ℕ} 0 1 = cc in omega arith)
-outer (Refused why) q r e = e
+outer : (p q r : Answer) → and_then p (and_then q r) ≡ Ok tt → and_then p r ≡ Ok tt
+outer (Ok _) (Ok _) r e = e
+outer (Ok _) (Err why) r e = absurd (let z : ◌≡◌ {A = ℕ} 0 1 = cc in omega arith)
+outer (Err why) q r e = e
 
-pub tables_pass : (sheet : List ℕ) (x : Tables) → sheet_checks sheet x ≡ Accepted → table_checks x ≡ Accepted
+pub tables_pass : (sheet : List ℕ) (x : Tables) → sheet_checks sheet x ≡ Ok tt → table_checks x ≡ Ok tt
 unfolding sheet_checks table_checks
 tables_pass sheet x e = outer (table_ranges x) (sheet_range sheet) (after_ranges x) e
 
-module _ (x : Tables) (e : table_checks x ≡ Accepted) where
-  passed : (table_ranges x ≡ Accepted) × (after_ranges x ≡ Accepted)
+module _ (x : Tables) (e : table_checks x ≡ Ok tt) where
+  passed : (table_ranges x ≡ Ok tt) × (after_ranges x ≡ Ok tt)
   unfolding table_checks
   passed = both_accept (table_ranges x) (after_ranges x) e
 
@@ -44,7 +43,7 @@ module _ (x : Tables) (e : table_checks x ≡ Accepted) where
   passes_2 = once x (both_accept (listed_twice x) _ passed.1).0
 
   -- code 3
-  pub passes_3 : too_deep x ≡ Accepted
+  pub passes_3 : too_deep x ≡ Ok tt
   passes_3 = (both_accept (too_deep x) (values_twice x) (both_accept (listed_twice x) _ passed.1).1).0
 
   -- code 4

@@ -13,7 +13,7 @@ use Rattle.cells.specs.Lists.{below, flat, count}
 use Rattle.cells.proofs.Rows.{lt_or_ge}
 use Rattle.tables.specs.Sizes.{max_depth}
 use Rattle.tables.specs.Tables.{Tables, functions, regions, blocks, operations}
-use Rattle.tables.specs.declared.Answer.TheVariants.{Accepted}
+use Rattle.std.specs.Prelude.{Ok}
 use Rattle.ranges.specs.Ranged.{Below}
 use Rattle.listed.specs.Twice.{listed_operations, listed_blocks, listed_regions}
 use Rattle.walk.specs.Order.{order_to, order}
@@ -43,7 +43,7 @@ pub flat_past : (i n : ℕ) → n ≤ i → (f : ℕ → List ℕ) → ((k : ℕ
 flat_past i n g f h [] = refl
 flat_past i n g f h (k ∷ ks) = omega (arith, count_append i (f k) (flat f ks), count_past i n g (f k) (h k), flat_past i n g f h ks)
 
-module _ (x : Tables) (e : table_checks x ≡ Accepted) where
+module _ (x : Tables) (e : table_checks x ≡ Ok tt) where
   operations_none : (i : ℕ) → x.counts.operations ≤ i → count i (listed_operations x) ≡ 0
   operations_none i g =
       omega (

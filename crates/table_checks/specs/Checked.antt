@@ -1,11 +1,9 @@
 -- What the checks hand on: the answer, and where nothing is refused the reachable operations in walk order and the value of each declared
 -- result.
-use Rattle.std.specs.Prelude.{ℕ, ◌≤◌, ◌≡◌, List}
+use Rattle.std.specs.Prelude.{ℕ, ◌≤◌, ◌≡◌, List, Ok, Err}
 use Rattle.tables.specs.Sizes.{max_entries}
 use Rattle.tables.specs.Tables.{Tables, cut}
-use Rattle.tables.specs.Answer.{and_then}
-use Rattle.tables.specs.declared.Answer.{Answer}
-use Rattle.tables.specs.declared.Answer.TheVariants.{Accepted, Refused}
+use Rattle.tables.specs.Answer.{and_then, Answer}
 use Rattle.listed.specs.Twice.{listed_twice}
 use Rattle.walk.specs.Depth.{too_deep}
 use Rattle.walk.specs.Written.{filled, walked}
@@ -16,8 +14,8 @@ use Rattle.table_checks.specs.declared.Checked.{Checked}
 use Rattle.table_checks.specs.declared.Checked.TheVariants.{Fine, Refused as refused}
 
 abbrev pub answer_of : Checked → Answer
-answer_of (Fine m) = Accepted
-answer_of (refused r) = Refused r
+answer_of (Fine m) = Ok tt
+answer_of (refused r) = Err r
 
 -- how many operations were written
 abbrev pub wrote : Checked → ℕ
@@ -35,9 +33,9 @@ after_cut x = and_then (listed_twice (cut x)) (and_then (too_deep x) (guarded_tw
 
 -- where a accepts, cells that held nothing, `bases₀` and `cells₀` at entry, hold the claims of x
 abbrev pub Hands : Answer → Tables → List ℕ → List ℕ → List ℕ → List ℕ → Type 0
-Hands a x bases₀ cells₀ bases cells = a ≡ Accepted → Zeros bases₀ cells₀ → Filled x bases cells
+Hands a x bases₀ cells₀ bases cells = a ≡ Ok tt → Zeros bases₀ cells₀ → Filled x bases cells
 
 -- the same after code 1, on counts cut at the sizes
 abbrev pub HandsCut : Tables → List ℕ → List ℕ → List ℕ → List ℕ → Type 0
 HandsCut x bases₀ cells₀ bases cells =
-    after_cut x ≡ Accepted → Zeros bases₀ cells₀ → declared_in (cut x) (cut x).counts.operations ≤ max_entries → Filled (cut x) bases cells
+    after_cut x ≡ Ok tt → Zeros bases₀ cells₀ → declared_in (cut x) (cut x).counts.operations ≤ max_entries → Filled (cut x) bases cells

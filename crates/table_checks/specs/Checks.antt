@@ -1,12 +1,10 @@
 -- The table checks in turn. "The full check over tables asks 16, 1, 2, 3, 4 in turn"; "Each part called alone asks 1 to 4 first (16
 -- before, if lent the target)."
-use Rattle.std.specs.Prelude.{Bool, true, false, ◌&&◌, ◌||◌, cond, List, ℕ, eqb, Option, Some, None}
+use Rattle.std.specs.Prelude.{Bool, true, false, ◌&&◌, ◌||◌, cond, List, ℕ, eqb, Option, Some, None, Ok, Err}
 use Rattle.requirements.specs.Target.{target_feature}
 use Rattle.tables.specs.Tables.{Tables}
-use Rattle.tables.specs.Answer.{and_then}
+use Rattle.tables.specs.Answer.{and_then, Answer}
 use Rattle.tables.specs.declared.Target.{Target}
-use Rattle.tables.specs.declared.Answer.{Answer}
-use Rattle.tables.specs.declared.Answer.TheVariants.{Accepted, Refused}
 use Rattle.tables.specs.declared.Refusal.TheVariants.{NoTarget}
 use Rattle.ranges.specs.Range.{table_ranges, sheet_range}
 use Rattle.listed.specs.Twice.{listed_twice}
@@ -25,7 +23,7 @@ abbrev pub good_target : Target → Bool
 good_target g = is_version g.version && is_target (target_feature g.sm)
 
 unfoldable pub target_check : Target → Answer
-target_check g = cond (good_target g) Accepted (Refused NoTarget)
+target_check g = cond (good_target g) (Ok tt) (Err NoTarget)
 
 -- 2, 3 and 4
 abbrev pub after_ranges : Tables → Answer

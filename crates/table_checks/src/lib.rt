@@ -34,11 +34,11 @@ pub fn check_target(g: Target) -> Answer
     ensures { result ≡ target_check g }
 {
     if !is_version(g.version) {
-        return Answer::Refused(Refusal::NoTarget);
+        return Err(Refusal::NoTarget);
     }
     match requirements::target_requirement(g.sm) {
-        Some(_) => Answer::Accepted,
-        None => Answer::Refused(Refusal::NoTarget),
+        Some(_) => Ok(()),
+        None => Err(Refusal::NoTarget),
     }
 }
 
@@ -65,14 +65,14 @@ fn after_ranges(
 ) -> Checked
     ensures { (t a : List ℕ) → let x = lent t v.now o.now a b.now r.now f.now l.now n in Settles result list.new list.old (after_cut x) (order x) × HandsCut x bases.old claims.old bases.new claims.new }
 {
-    if let Answer::Refused(why) = listed::listed_twice(o, b, r, f, l, n) {
+    if let Err(why) = listed::listed_twice(o, b, r, f, l, n) {
         return refuse(why, list);
     }
     let walked = walk::walk_order(o, b, r, f, l, n, list);
     match walked {
         Walked::Deep(i) => Checked::Refused(Refusal::TooDeep { operation: i }),
         Walked::Fine(m) => {
-            if let Answer::Refused(why) = values::values_claimed(o, v, b, l, n, bases, claims) {
+            if let Err(why) = values::values_claimed(o, v, b, l, n, bases, claims) {
                 return refuse(why, list);
             }
             Checked::Fine(m)
@@ -98,7 +98,7 @@ pub fn check_tables(
 ) -> Checked
     ensures { let x = lent t.now v.now o.now a.now b.now r.now f.now l.now n in Settles result list.new list.old (table_checks x) (order x) × Hands (table_checks x) x bases.old claims.old bases.new claims.new }
 {
-    if let Answer::Refused(why) = ranges::check_tables(t, v, o, a, b, r, f, l, n) {
+    if let Err(why) = ranges::check_tables(t, v, o, a, b, r, f, l, n) {
         return refuse(why, list);
     }
     after_ranges(v, o, b, r, f, l, n, list, bases, claims)
@@ -122,10 +122,10 @@ pub fn check_with_sheet(
 ) -> Checked
     ensures { let x = lent t.now v.now o.now a.now b.now r.now f.now l.now n in Settles result list.new list.old (sheet_checks sheet.now x) (order x) × Hands (sheet_checks sheet.now x) x bases.old claims.old bases.new claims.new }
 {
-    if let Answer::Refused(why) = ranges::check_tables(t, v, o, a, b, r, f, l, n) {
+    if let Err(why) = ranges::check_tables(t, v, o, a, b, r, f, l, n) {
         return refuse(why, list);
     }
-    if let Answer::Refused(why) = ranges::check_sheet(sheet) {
+    if let Err(why) = ranges::check_sheet(sheet) {
         return refuse(why, list);
     }
     after_ranges(v, o, b, r, f, l, n, list, bases, claims)

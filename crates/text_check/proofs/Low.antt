@@ -10,9 +10,8 @@ use Rattle.fields.specs.Cut.{split, nth}
 use Rattle.fields.specs.declared.Number.{Number}
 use Rattle.fields.specs.declared.Number.TheVariants.{Is, Bad}
 use Rattle.tables.specs.Sizes.{opcodes, modes, kinds, max_text}
-use Rattle.tables.specs.Answer.{numbers_of}
-use Rattle.tables.specs.declared.Answer.{Answer}
-use Rattle.tables.specs.declared.Answer.TheVariants.{Accepted, Refused}
+use Rattle.tables.specs.Answer.{numbers_of, Answer}
+use Rattle.std.specs.Prelude.{Ok, Err}
 use Rattle.tables.specs.declared.Refusal.{Refusal}
 use Rattle.tables.specs.declared.Refusal.TheVariants.{OutOfRange, TooShort, NotInForm}
 use Rattle.lines.specs.Field.{Read, says, bad, number, one_of, integer64, only}
@@ -80,22 +79,22 @@ judged_low last key fs = line_by_low (tag_of (nth 0 fs)) last key fs
 -- ---- an answer
 
 abbrev pub Low : Answer → Type 0
-Low a = (r : Refusal) → a ≡ Refused r → (numbers_of r).code ≡ 15 → (numbers_of r).detail ≤ 3
+Low a = (r : Refusal) → a ≡ Err r → (numbers_of r).code ≡ 15 → (numbers_of r).detail ≤ 3
 
-accepted_low : Low Accepted
+accepted_low : Low (Ok tt)
 accepted_low r e c = absurd (let z : ◌≡◌ {A = ℕ} 0 1 = cc in omega arith)
 
-form_low : (line k : ℕ) → k ≤ 3 → Low (Refused (NotInForm line k))
+form_low : (line k : ℕ) → k ≤ 3 → Low (Err (NotInForm line k))
 form_low line k h r e c = let q : NotInForm line k ≡ r = cc in subst (λ (z : Refusal). (numbers_of z).detail ≤ 3) q h
 
 -- no 15
-other_low : (q : Refusal) → ((numbers_of q).code ≡ 15 → ◌≡◌ {A = ℕ} 0 1) → Low (Refused q)
+other_low : (q : Refusal) → ((numbers_of q).code ≡ 15 → ◌≡◌ {A = ℕ} 0 1) → Low (Err q)
 other_low q not r e c = absurd (let k : q ≡ r = cc in let z = not (ap (λ (x : Refusal). (numbers_of x).code) k ∙ c) in omega arith)
 
-range_low : Low (Refused (OutOfRange 0 0))
+range_low : Low (Err (OutOfRange 0 0))
 range_low = other_low (OutOfRange 0 0) (λ e. absurd (omega arith))
 
-short_low : Low (Refused (TooShort sheet_cells))
+short_low : Low (Err (TooShort sheet_cells))
 short_low = other_low (TooShort sheet_cells) (λ e. absurd (omega arith))
 
 -- ---- line after line
@@ -105,8 +104,8 @@ taken_low s end (bad k) h = form_low s.line k (h k refl)
 taken_low s end (says w) h = accepted_low
 
 onward_low : (a : Answer) (s next : State) → Low s.answer → Low next.answer → Low (onward a s next).answer
-onward_low Accepted s next h k = k
-onward_low (Refused r) s next h k = h
+onward_low (Ok _) s next h k = k
+onward_low (Err r) s next h k = h
 
 far_low : (b : Bool) (s next : State) → Low next.answer → Low (cond b (refuse (OutOfRange 0 0) s) next).answer
 far_low true s next k = range_low
@@ -141,6 +140,6 @@ pub sheet_low : (text s : List ℕ) → Low (read_sheet text s).answer
 unfolding read_sheet
 sheet_low text s = by (ltb (length s) sheet_cells)
   where
-    by : (b : Bool) → Low (cond b (left (Refused (TooShort sheet_cells)) (zeros s)) (ended (lines_of (fresh (blank s)) (split 10 text)))).answer
+    by : (b : Bool) → Low (cond b (left (Err (TooShort sheet_cells)) (zeros s)) (ended (lines_of (fresh (blank s)) (split 10 text)))).answer
     by true = short_low
     by false = lines_low (fresh (blank s)) (split 10 text) accepted_low

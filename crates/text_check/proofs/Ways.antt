@@ -4,9 +4,8 @@ use mathlib.Core.Path.{◌≡◌, sym, ◌∙◌, ap}
 use mathlib.Core.List.{List}
 use borrow.Author.Tests.{ne_eqb}
 use Rattle.tables.specs.Tables.{Tables}
-use Rattle.tables.specs.Answer.{numbers_of}
-use Rattle.tables.specs.declared.Answer.{Answer}
-use Rattle.tables.specs.declared.Answer.TheVariants.{Accepted, Refused as No}
+use Rattle.tables.specs.Answer.{numbers_of, Answer}
+use Rattle.std.specs.Prelude.{Ok, Err}
 use Rattle.tables.specs.declared.Refusal.{Refusal}
 use Rattle.tables.specs.declared.Refusal.TheVariants.{NotInForm}
 use Rattle.tables.specs.declared.Numbers.{Numbers}
@@ -37,11 +36,11 @@ module _ (why : Refusal) {n : Numbers} (e : n ≡ numbers_of why) where
 -- ---- what was read
 
 module _ (s : State) (sheet numbers lengths : List ℕ) where
-  pub read_stops : {why : Refusal} → s.answer ≡ No why → outcome (Refused why) numbers lengths ≡ checked s sheet numbers lengths
+  pub read_stops : {why : Refusal} → s.answer ≡ Err why → outcome (Refused why) numbers lengths ≡ checked s sheet numbers lengths
   unfolding checked
   read_stops e = rw e
 
-  pub read_asked : s.answer ≡ Accepted → full_check (target s) sheet s.tables numbers lengths ≡ checked s sheet numbers lengths
+  pub read_asked : s.answer ≡ Ok tt → full_check (target s) sheet s.tables numbers lengths ≡ checked s sheet numbers lengths
   unfolding checked
   read_asked e = rw e
 
@@ -49,15 +48,15 @@ module _ (s : State) (sheet numbers lengths : List ℕ) where
 
 module _ (sheet_text text : List ℕ) (x : Tables) (sheet numbers lengths : List ℕ) {a : Answer} {after : List ℕ}
     (e : left a after ≡ read_sheet sheet_text sheet) where
-  pub refused_low : {why : Refusal} → a ≡ No why → (numbers_of why).code ≡ 15 → (numbers_of why).detail ≤ 3
+  pub refused_low : {why : Refusal} → a ≡ Err why → (numbers_of why).code ≡ 15 → (numbers_of why).detail ≤ 3
   refused_low {why} q = sheet_low sheet_text sheet why (sym (ap (λ (w : Left Answer). w.answer) e) ∙ q)
 
-  pub sheet_stops : {why told : Refusal} → a ≡ No why → told ≡ in_sheet why
+  pub sheet_stops : {why told : Refusal} → a ≡ Err why → told ≡ in_sheet why
       → texts (outcome (Refused told) numbers lengths) x after ≡ texts_check sheet_text text x sheet numbers lengths
   unfolding texts_check
   sheet_stops q t = rw (sym e, q, t)
 
-  pub both_read : {s : State} {said : Outcome} → a ≡ Accepted → s ≡ house text x → said ≡ checked s after numbers lengths
+  pub both_read : {s : State} {said : Outcome} → a ≡ Ok tt → s ≡ house text x → said ≡ checked s after numbers lengths
       → texts said (slices s.tables) after ≡ texts_check sheet_text text x sheet numbers lengths
   unfolding texts_check
   both_read q m c = rw (sym e, q, sym m, c)

@@ -1,11 +1,9 @@
 -- The check over texts. "The program reads the sheet first; its 15 adds 100 to the field." Then the module is read, and the full check asks its
 -- tables with the header's target.
-use Rattle.std.specs.Prelude.{ℕ, ◌+◌, cond, List, eqb}
+use Rattle.std.specs.Prelude.{ℕ, ◌+◌, cond, List, eqb, Ok, Err}
 use Rattle.tables.specs.Tables.{Tables, lent}
-use Rattle.tables.specs.Answer.{numbers_of}
+use Rattle.tables.specs.Answer.{numbers_of, Answer}
 use Rattle.tables.specs.declared.Target.{Target}
-use Rattle.tables.specs.declared.Answer.{Answer}
-use Rattle.tables.specs.declared.Answer.TheVariants.{Accepted, Refused as No}
 use Rattle.tables.specs.declared.Refusal.{Refusal}
 use Rattle.tables.specs.declared.Refusal.TheVariants.{NotInForm}
 use Rattle.sheet.specs.Sheet.{read_sheet}
@@ -45,8 +43,8 @@ unfoldable pub checked : State → List ℕ → List ℕ → List ℕ → Outcom
 checked s sheet numbers lengths = after_checks s.answer (full_check (target s) sheet s.tables numbers lengths) numbers lengths
 
 abbrev pub after_sheet : Answer → List ℕ → State → Tables → List ℕ → List ℕ → Texts
-after_sheet (No r) sheet s x numbers lengths = texts (outcome (Refused (in_sheet r)) numbers lengths) x sheet
-after_sheet Accepted sheet s x numbers lengths = texts (checked s sheet numbers lengths) (slices s.tables) sheet
+after_sheet (Err r) sheet s x numbers lengths = texts (outcome (Refused (in_sheet r)) numbers lengths) x sheet
+after_sheet (Ok _) sheet s x numbers lengths = texts (checked s sheet numbers lengths) (slices s.tables) sheet
 
 -- a refused sheet leaves the tables as they were; a module that was read stays in them, whatever the check says
 unfoldable pub texts_check : List ℕ → List ℕ → Tables → List ℕ → List ℕ → List ℕ → Texts

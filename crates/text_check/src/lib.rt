@@ -51,7 +51,7 @@ fn check_read(
         version: s.version,
         sm: s.sm,
     };
-    if let Answer::Refused(why) = answer {
+    if let Err(why) = answer {
         return Numbered::Refused(why);
     }
     full_check::check(g, t, v, o, a, b, r, f, l, n, sheet, numbers, lengths)
@@ -76,7 +76,7 @@ pub fn check_texts(
 ) -> Numbered
     ensures { texts (outcome result numbers.new lengths.new) (lent t.new v.new o.new a.new b.new r.new f.new l.new no_counts) sheet.new ≡ texts_check sheet_text.now text.now (lent t.old v.old o.old a.old b.old r.old f.old l.old no_counts) sheet.old numbers.old lengths.old }
 {
-    if let Answer::Refused(why) = sheet::read_sheet(sheet_text, sheet) {
+    if let Err(why) = sheet::read_sheet(sheet_text, sheet) {
         return Numbered::Refused(in_sheet(why));
     }
     let s = module_text::read_module(text, t, v, o, a, b, r, f, l);

@@ -8,9 +8,8 @@ use mathlib.Core.List.{List, [], ◌∷◌, ◌++◌, map, append_assoc}
 use Rattle.cells.specs.Lists.{flat}
 use Rattle.tables.specs.Sizes.{max_depth}
 use Rattle.tables.specs.Tables.{Tables, functions, regions, blocks, operations}
-use Rattle.tables.specs.Answer.{and_then, each}
-use Rattle.tables.specs.declared.Answer.{Answer}
-use Rattle.tables.specs.declared.Answer.TheVariants.{Accepted}
+use Rattle.tables.specs.Answer.{and_then, each, Answer}
+use Rattle.std.specs.Prelude.{Ok}
 use Rattle.listed.specs.Twice.{listed_twice}
 use Rattle.listed.proofs.Answers.{both_accept}
 use Rattle.walk.specs.Depth.{opens, operation_depth, block_depth, region_depth, too_deep}
@@ -67,7 +66,7 @@ over_spanned x = record { functions = refl; regions = λ i. refl; blocks = λ k.
 
 -- ---- a larger depth is the same walk
 
-opens_none : (i : ℕ) (js : List ℕ) → opens i js ≡ Accepted → js ≡ []
+opens_none : (i : ℕ) (js : List ℕ) → opens i js ≡ Ok tt → js ≡ []
 opens_none i [] e = refl
 opens_none i (j ∷ js) e = absurd (let z : ◌≡◌ {A = ℕ} 0 1 = cc in omega arith)
 
@@ -77,41 +76,41 @@ unfolding region_depth
 opened x d i k = refl
 
 -- what the judge accepts is the same, so the whole list is
-pub flat_judged : {B : Type 0} (f : ℕ → Answer) (g h : ℕ → List B) → ((k : ℕ) → f k ≡ Accepted → g k ≡ h k) → (ks : List ℕ) → each f ks ≡ Accepted
+pub flat_judged : {B : Type 0} (f : ℕ → Answer) (g h : ℕ → List B) → ((k : ℕ) → f k ≡ Ok tt → g k ≡ h k) → (ks : List ℕ) → each f ks ≡ Ok tt
     → flat g ks ≡ flat h ks
 flat_judged f g h same [] e = refl
 flat_judged f g h same (k ∷ ks) e =
     let q = both_accept (f k) (each f ks) e in
     rw (same k q.0, flat_judged f g h same ks q.1)
 
-first_judged : {B : Type 0} (f : ℕ → Answer) (g h : ℕ → List B) → ((k : ℕ) → f k ≡ Accepted → g k ≡ h k) → (ks : List ℕ) → each f ks ≡ Accepted
+first_judged : {B : Type 0} (f : ℕ → Answer) (g h : ℕ → List B) → ((k : ℕ) → f k ≡ Ok tt → g k ≡ h k) → (ks : List ℕ) → each f ks ≡ Ok tt
     → first g ks ≡ first h ks
 first_judged f g h same [] e = refl
 first_judged f g h same (k ∷ ks) e = same k (both_accept (f k) (each f ks) e).0
 
 module _ {A : Type 0} (x : Tables) (s : Shape A) (o : Over x s) where
   -- an answer on lists of x is one on lists of the walk
-  judged : (f : ℕ → Answer) {is js : List ℕ} → is ≡ js → each f js ≡ Accepted → each f is ≡ Accepted
+  judged : (f : ℕ → Answer) {is js : List ℕ} → is ≡ js → each f js ≡ Ok tt → each f is ≡ Ok tt
   judged f q e = ap (each f) q ∙ e
 
-  module _ (f : ℕ → ℕ → Answer) (g h : List A → ℕ → List (Visit A)) (same : (i k : ℕ) → f i k ≡ Accepted → (live : List A) → g live k ≡ h live k) where
-    operation_same : (i : ℕ) → operation_depth f x i ≡ Accepted → (live : List A) → operation_visits g s live i ≡ operation_visits h s live i
+  module _ (f : ℕ → ℕ → Answer) (g h : List A → ℕ → List (Visit A)) (same : (i k : ℕ) → f i k ≡ Ok tt → (live : List A) → g live k ≡ h live k) where
+    operation_same : (i : ℕ) → operation_depth f x i ≡ Ok tt → (live : List A) → operation_visits g s live i ≡ operation_visits h s live i
     unfolding operation_visits operation_depth
     operation_same i e live =
         ap (λ (us : List (Visit A)). visit i live ∷ us)
         (flat_judged (f i) (g (live ++ s.inner i)) (h (live ++ s.inner i)) (λ k q. same i k q (live ++ s.inner i)) (s.regions i) (judged (f i) (o.regions i) e))
 
-    operations_same : (is : List ℕ) → each (operation_depth f x) is ≡ Accepted → (live : List A) → operations_visits g s live is ≡ operations_visits h s live is
+    operations_same : (is : List ℕ) → each (operation_depth f x) is ≡ Ok tt → (live : List A) → operations_visits g s live is ≡ operations_visits h s live is
     operations_same [] e live = refl
     operations_same (i ∷ is) e live =
         let q = both_accept (operation_depth f x i) (each (operation_depth f x) is) e in
         rw (operation_same i q.0 live, operations_same is q.1 (live ++ s.results i))
 
-    block_same : (j : ℕ) → block_depth f x j ≡ Accepted → (live : List A) → block_visits g s live j ≡ block_visits h s live j
+    block_same : (j : ℕ) → block_depth f x j ≡ Ok tt → (live : List A) → block_visits g s live j ≡ block_visits h s live j
     unfolding block_visits block_depth
     block_same j e live = operations_same (s.operations j) (judged (operation_depth f x) (o.operations j) e) (live ++ s.arguments j)
 
-  pub region_same : (d e : ℕ) → e ≤ d → (i k : ℕ) → region_depth e x i k ≡ Accepted → (live : List A) → region_visits d s live k ≡ region_visits e s live k
+  pub region_same : (d e : ℕ) → e ≤ d → (i k : ℕ) → region_depth e x i k ≡ Ok tt → (live : List A) → region_visits d s live k ≡ region_visits e s live k
   unfolding region_visits region_depth
   region_same zero zero l i k h live = refl
   region_same (suc d) zero l i k h live = rw (o.blocks k ∙ opens_none i (blocks x k) h)
@@ -121,8 +120,8 @@ module _ {A : Type 0} (x : Tables) (s : Shape A) (o : Over x s) where
       (λ j q. block_same (region_depth e x) (region_visits d s) (region_visits e s) (region_same d e (le_of_suc-le-suc l)) j q live)
       (s.blocks k) (judged (block_depth (region_depth e x) x) (o.blocks k) h)
 
-  module _ (three : too_deep x ≡ Accepted) where
-    fine : each (operation_depth (region_depth max_depth x) x) s.functions ≡ Accepted
+  module _ (three : too_deep x ≡ Ok tt) where
+    fine : each (operation_depth (region_depth max_depth x) x) s.functions ≡ Ok tt
     unfolding too_deep
     fine = judged (operation_depth (region_depth max_depth x) x) o.functions three
 
@@ -231,15 +230,15 @@ entry_first x f k j ks js e q =
 
 -- ---- dominance, numbering and reading back, where their checks pass
 
-pub dominance_deeper : (x : Tables) → table_checks x ≡ Accepted → (d : ℕ) → max_depth ≤ d → whole_to d (valued x) ≡ whole_visits (valued x)
+pub dominance_deeper : (x : Tables) → table_checks x ≡ Ok tt → (d : ℕ) → max_depth ≤ d → whole_to d (valued x) ≡ whole_visits (valued x)
 dominance_deeper x e = whole_deeper x (valued x) (over_valued x) (passes_3 x e)
 
-pub numbering_deeper : (x : Tables) → table_checks x ≡ Accepted → (d : ℕ) → max_depth - 1 ≤ d
+pub numbering_deeper : (x : Tables) → table_checks x ≡ Ok tt → (d : ℕ) → max_depth - 1 ≤ d
     → entries_to d (placed (nesting_of x)) ≡ entries_visits (placed (nesting_of x))
 numbering_deeper x e = entries_deeper x (placed (nesting_of x)) (over_placed x) (passes_3 x e)
 
 -- reading back asks 3 itself
-pub reading_deeper : (x : Tables) → nesting_checks x ≡ Accepted → (d : ℕ) → max_depth - 1 ≤ d
+pub reading_deeper : (x : Tables) → nesting_checks x ≡ Ok tt → (d : ℕ) → max_depth - 1 ≤ d
     → entries_to d (placed (spanned x)) ≡ entries_visits (placed (spanned x))
 unfolding nesting_checks
 reading_deeper x e =

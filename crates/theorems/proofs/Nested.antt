@@ -7,9 +7,8 @@ use mathlib.Core.List.{List, [], ◌∷◌}
 use Rattle.cells.specs.Lists.{flat}
 use Rattle.tables.specs.Sizes.{max_depth}
 use Rattle.tables.specs.Tables.{Tables, functions, regions, blocks, operations}
-use Rattle.tables.specs.Answer.{each}
-use Rattle.tables.specs.declared.Answer.{Answer}
-use Rattle.tables.specs.declared.Answer.TheVariants.{Accepted}
+use Rattle.tables.specs.Answer.{each, Answer}
+use Rattle.std.specs.Prelude.{Ok}
 use Rattle.listed.proofs.Answers.{both_accept}
 use Rattle.walk.specs.Depth.{operation_depth, block_depth, region_depth, too_deep}
 use Rattle.walk.specs.Order.{operation_order, block_order, region_order}
@@ -94,7 +93,7 @@ module _ (x : Tables) where
 
   -- ---- where no more than d blocks stand inside each other below g
 
-  module _ (d g : ℕ) (e : operation_depth (region_depth d x) x g ≡ Accepted) where
+  module _ (d g : ℕ) (e : operation_depth (region_depth d x) x g ≡ Ok tt) where
     same_depth : (n : ℕ) → d ≤ n → flat (region_order n x) (regions x g) ≡ flat (region_order d x) (regions x g)
     unfolding operation_depth
     same_depth n l =
@@ -132,13 +131,13 @@ module _ (x : Tables) where
       from_region_lem g d r.parent i
       (λ j z u v. held (record { region = r.parent; block = j; in_operation_lem = r.listed; in_region_lem = u; in_block = v })) r.holds
 
-  accepted : (f : ℕ → Answer) {k : ℕ} (ks : List ℕ) → each f ks ≡ Accepted → In k ks → f k ≡ Accepted
+  accepted : (f : ℕ → Answer) {k : ℕ} (ks : List ℕ) → each f ks ≡ Ok tt → In k ks → f k ≡ Ok tt
   accepted f {k = k} [] e p = elim p [ ]
   accepted f (k ∷ ks) e here = (both_accept (f k) (each f ks) e).0
   accepted f (k ∷ ks) e (later p) = accepted f ks (both_accept (f k) (each f ks) e).1 p
 
-  module _ (three : too_deep x ≡ Accepted) (f : ℕ) (m : In f (functions x)) where
-    fine : operation_depth (region_depth max_depth x) x f ≡ Accepted
+  module _ (three : too_deep x ≡ Ok tt) (f : ℕ) (m : In f (functions x)) where
+    fine : operation_depth (region_depth max_depth x) x f ≡ Ok tt
     unfolding too_deep
     fine = accepted (operation_depth (region_depth max_depth x) x) (functions x) three m
 
@@ -148,11 +147,11 @@ module _ (x : Tables) where
 
     -- what the entry walk visits, where j is the first block of the first region of f, is exactly what is within that block
     module _ (k j : ℕ) (p : In k (regions x f)) (q : In j (blocks x k)) where
-      fine_in_block : (o : ℕ) → In o (operations x j) → operation_depth (region_depth (max_depth - 1) x) x o ≡ Accepted
+      fine_in_block : (o : ℕ) → In o (operations x j) → operation_depth (region_depth (max_depth - 1) x) x o ≡ Ok tt
       unfolding operation_depth block_depth
       fine_in_block o r =
-          let a : region_depth max_depth x f k ≡ Accepted = accepted (region_depth max_depth x f) (regions x f) fine p in
-          let b : block_depth (region_depth (max_depth - 1) x) x j ≡ Accepted =
+          let a : region_depth max_depth x f k ≡ (Ok tt) = accepted (region_depth max_depth x f) (regions x f) fine p in
+          let b : block_depth (region_depth (max_depth - 1) x) x j ≡ (Ok tt) =
           accepted (block_depth (region_depth (max_depth - 1) x) x) (blocks x k) (opened x (max_depth - 1) f k ∙ a) q in
           accepted (operation_depth (region_depth (max_depth - 1) x) x) (operations x j) b r
 
@@ -182,7 +181,7 @@ pub record Reached (x : Tables) (i : ℕ) : Type 0 where
   pub listed : In function (functions x)
   pub nested : Nested x function i
 
-module _ {A : Type 0} (x : Tables) (s : Shape A) (over : Over x s) (three : too_deep x ≡ Accepted) where
+module _ {A : Type 0} (x : Tables) (s : Shape A) (over : Over x s) (three : too_deep x ≡ Ok tt) where
   -- the whole walk visits exactly the operations that are nested in a function
   pub visited_exactly : (i : ℕ) → In i (ops (whole_visits s)) ↔ Reached x i
   visited_exactly i = (

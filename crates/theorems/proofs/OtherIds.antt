@@ -15,8 +15,8 @@ use Rattle.tables.specs.Sheet.{fixed_flag_in, fixed_count_in, mode_mask_in, cont
 use Rattle.tables.specs.Tables.{Tables, lent, nest, regions, blocks, operations, arguments, result_types, operands, arguments_span, result_types_span, operands_span}
 use Rattle.tables.specs.Value.{value_of}
 use Rattle.tables.specs.Place.{defining_place}
-use Rattle.tables.specs.declared.Answer.{Answer}
-use Rattle.tables.specs.declared.Answer.TheVariants.{Accepted}
+use Rattle.tables.specs.Answer.{Answer}
+use Rattle.std.specs.Prelude.{Ok}
 use Rattle.ranges.specs.Entry.{good_type, good_value, good_operation, good_attribute, good_block, good_region}
 use Rattle.ranges.specs.Range.{first_bad, table_ranges, good_sheet, sheet_range}
 use Rattle.listed.specs.Twice.{lowest_twice, listed_twice}
@@ -103,13 +103,13 @@ unfolding m after numbering_alone sheet_checks table_ranges sheet_range good_she
     mode_mask_in contained_mask_in byte_width_in tile_flag_in
 numbered = refl
 
-ranged : nesting_ranges other ≡ Accepted
+ranged : nesting_ranges other ≡ Ok tt
 unfolding other nesting_ranges first_bad nested_operation nested_block good_region functions_in regions_in regions_span_in blocks_in blocks_span_in operations_in
     operations_span_in arguments_span_in result_types_span_in operands_span_in
 ranged = refl
 
 -- the places of M, read off its tables: both arguments of block 0, result 0 of operation 1, and inside, these again
-its_places : written (fine (operand_places m)) (replicate 19 9) ≡ reads Accepted (0 ∷ 0 ∷ 0 ∷ 0 ∷ 0 ∷ 1 ∷ 1 ∷ 1 ∷ 0 ∷ 1 ∷ 1 ∷ 0 ∷ 0 ∷ 0 ∷ 0 ∷ 1 ∷ 1 ∷ 0 ∷ 9 ∷ [])
+its_places : written (fine (operand_places m)) (replicate 19 9) ≡ reads (Ok tt) (0 ∷ 0 ∷ 0 ∷ 0 ∷ 0 ∷ 1 ∷ 1 ∷ 1 ∷ 0 ∷ 1 ∷ 1 ∷ 0 ∷ 0 ∷ 0 ∷ 0 ∷ 1 ∷ 1 ∷ 0 ∷ 9 ∷ [])
 unfolding m operand_places uses defining_place entries_visits entry_visits region_visits block_visits operation_visits placed nesting_of result_types_span_in
     result_types_in operands_span_in operands_in regions_span_in regions_in arguments_span_in arguments_in operations_span_in operations_in blocks_span_in blocks_in
     functions_in claim_flag_in claim_in
@@ -117,7 +117,7 @@ its_places = refl
 
 -- and these are found in the other tables, by the list as it was written
 pub found_elsewhere : read_back_alone other (take 6 after.numbers) (replicate 19 9)
-    ≡ reads Accepted (0 ∷ 0 ∷ 0 ∷ 0 ∷ 0 ∷ 1 ∷ 1 ∷ 1 ∷ 0 ∷ 1 ∷ 1 ∷ 0 ∷ 0 ∷ 0 ∷ 0 ∷ 1 ∷ 1 ∷ 0 ∷ 9 ∷ [])
+    ≡ reads (Ok tt) (0 ∷ 0 ∷ 0 ∷ 0 ∷ 0 ∷ 1 ∷ 1 ∷ 1 ∷ 0 ∷ 1 ∷ 1 ∷ 0 ∷ 0 ∷ 0 ∷ 0 ∷ 1 ∷ 1 ∷ 0 ∷ 9 ∷ [])
 unfolding after
 found_elsewhere =
     reading_finds_the_places (replicate 320 0) m other (replicate 7 9) (replicate 2 8) (replicate 19 9) 6

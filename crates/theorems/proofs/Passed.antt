@@ -6,13 +6,13 @@ use mathlib.Core.Logic.{⊎_elim}
 use Rattle.cells.specs.Lists.{below, count}
 use Rattle.cells.proofs.Rows.{lt_or_ge}
 use Rattle.tables.specs.Tables.{Tables, arguments}
-use Rattle.tables.specs.declared.Answer.TheVariants.{Accepted}
+use Rattle.std.specs.Prelude.{Ok}
 use Rattle.table_checks.specs.Checks.{table_checks}
 use Rattle.table_checks.proofs.Laws.{passes_1, passes_4}
 use Rattle.table_checks.proofs.Reach.{operations_once, blocks_once, regions_once, flat_past}
 use Rattle.nesting.specs.Passed.{Apart, Single, all_arguments}
 
-module _ (x : Tables) (e : table_checks x ≡ Accepted) where
+module _ (x : Tables) (e : table_checks x ≡ Ok tt) where
   -- codes 1 and 2
   pub apart : Apart x
   apart = record { operations = operations_once x e; blocks = blocks_once x e; regions = regions_once x e }

@@ -9,8 +9,8 @@ use lib.ListN.{length, take, drop}
 use lib.Seq.{take-append_seam}
 use Rattle.tables.specs.Tables.{Tables}
 use Rattle.tables.specs.declared.Place.{Place}
-use Rattle.tables.specs.declared.Answer.{Answer}
-use Rattle.tables.specs.declared.Answer.TheVariants.{Accepted, Refused as No}
+use Rattle.tables.specs.Answer.{Answer}
+use Rattle.std.specs.Prelude.{Ok, Err}
 use Rattle.tables.specs.declared.Refusal.TheVariants.{TooShort}
 use Rattle.tables.specs.declared.Target.{Target}
 use Rattle.listed.proofs.Answers.{both_accept}
@@ -33,7 +33,7 @@ use Rattle.theorems.proofs.Seen.{checks_are}
 
 -- tables that pass 1 to 4, and the list of their numbers
 pub record Numbers (sheet : List ℕ) (x : Tables) (zs : List ℕ) : Type 0 where
-  pub checks : table_checks x ≡ Accepted
+  pub checks : table_checks x ≡ Ok tt
   pub list : numbering sheet x ≡ fine zs
 
 -- ---- an accepted entry has written the list
@@ -51,11 +51,11 @@ room false q zs ns numbers lengths c e = absurd (let z : ◌≡◌ {A = ℕ} 0 1
 -- where the checks before it passed and the numbering is a list
 wrote : (a : Answer) (l : Listing ℕ) (ns numbers lengths : List ℕ) (c : ℕ)
     → let w = after_checks a (handed l ns numbers lengths) numbers lengths in
-    w.answer ≡ Written c → (a ≡ Accepted) × (l ≡ fine (take c w.numbers))
-wrote Accepted (fine zs) ns numbers lengths c e =
+    w.answer ≡ Written c → (a ≡ Ok tt) × (l ≡ fine (take c w.numbers))
+wrote (Ok _) (fine zs) ns numbers lengths c e =
     (refl, ap fine (room (leb (length zs) (length numbers)) (leb (length ns) (length lengths)) zs ns numbers lengths c e))
-wrote Accepted (refused r) ns numbers lengths c e = absurd (let z : ◌≡◌ {A = ℕ} 0 1 = cc in omega arith)
-wrote (No r) l ns numbers lengths c e = absurd (let z : ◌≡◌ {A = ℕ} 0 1 = cc in omega arith)
+wrote (Ok _) (refused r) ns numbers lengths c e = absurd (let z : ◌≡◌ {A = ℕ} 0 1 = cc in omega arith)
+wrote (Err r) l ns numbers lengths c e = absurd (let z : ◌≡◌ {A = ℕ} 0 1 = cc in omega arith)
 
 -- numbering called alone
 pub numbering_wrote : (sheet : List ℕ) (x : Tables) (numbers lengths : List ℕ) (c : ℕ)

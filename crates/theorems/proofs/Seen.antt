@@ -13,9 +13,8 @@ use Rattle.cells.specs.Lists.{from, below, flat, count, find}
 use Rattle.cells.proofs.Rows.{lt_or_ge}
 use Rattle.tables.specs.Sizes.{max_depth}
 use Rattle.tables.specs.Tables.{Tables, functions, regions, blocks, operations, arguments, result_types, operands, arguments_span, result_types_span, operands_span}
-use Rattle.tables.specs.Answer.{and_then, each}
-use Rattle.tables.specs.declared.Answer.{Answer}
-use Rattle.tables.specs.declared.Answer.TheVariants.{Accepted, Refused}
+use Rattle.tables.specs.Answer.{and_then, each, Answer}
+use Rattle.std.specs.Prelude.{Ok, Err}
 use Rattle.listed.specs.Twice.{listed_operations, listed_blocks, listed_regions, lowest_twice, refused, listed_twice}
 use Rattle.walk.specs.Depth.{opens, operation_depth, block_depth, region_depth, too_deep}
 use Rattle.walk.proofs.Totals.{hit, total_append, count_total, count_below, count_within}
@@ -32,7 +31,7 @@ none_twice : (xs : List ℕ) → ((i : ℕ) → count i xs ≤ 1) → (s n : ℕ
 none_twice xs once s zero = refl
 none_twice xs once s (suc n) = rw (le-ltb 1 (count s xs) (once s)) (none_twice xs once (suc s) n)
 
-lowest_none : (list : ℕ) (xs : List ℕ) (n : ℕ) → ((i : ℕ) → count i xs ≤ 1) → refused list (lowest_twice xs n) ≡ Accepted
+lowest_none : (list : ℕ) (xs : List ℕ) (n : ℕ) → ((i : ℕ) → count i xs ≤ 1) → refused list (lowest_twice xs n) ≡ Ok tt
 unfolding lowest_twice
 lowest_none list xs n once = ap (refused list) (none_twice xs once 0 n)
 
@@ -66,7 +65,7 @@ seen x y fs rs bs os us ts vs = λ t. record {
   operands = λ i. vs i t;
 }
 
-module _ (x y : Tables) (e : table_checks x ≡ Accepted) (same : spanned y ≡ nesting_of x) where
+module _ (x y : Tables) (e : table_checks x ≡ Ok tt) (same : spanned y ≡ nesting_of x) where
   same_functions : functions y ≡ functions x
   unfolding spanned nesting_of
   same_functions = ap (λ (n : Nesting). n.functions) same
@@ -103,7 +102,7 @@ module _ (x y : Tables) (e : table_checks x ≡ Accepted) (same : spanned y ≡ 
   regions_fine k =
       omega (arith, rows_within (regions y) (regions x) same_regions_lem y.counts.operations x.counts.operations (regions_past x) k, regions_once x e k)
 
-  two : listed_twice y ≡ Accepted
+  two : listed_twice y ≡ Ok tt
   unfolding listed_twice
   two =
       rw (
@@ -122,7 +121,7 @@ module _ (x y : Tables) (e : table_checks x ≡ Accepted) (same : spanned y ≡ 
   unfolding too_deep operation_depth
   depth_same = λ t. each (λ o. each (region_depth_lem max_depth t o) (same_regions_lem t o)) (same_functions t)
 
-  three : too_deep y ≡ Accepted
+  three : too_deep y ≡ Ok tt
   three = depth_same ∙ passes_3 x e
 
   -- so what is asked first is code 1 of y
@@ -130,6 +129,6 @@ module _ (x y : Tables) (e : table_checks x ≡ Accepted) (same : spanned y ≡ 
   unfolding nesting_checks
   checks_are = rw (two, three) (rest (nesting_ranges y))
     where
-      rest : (a : Answer) → and_then a Accepted ≡ a
-      rest Accepted = refl
-      rest (Refused r) = refl
+      rest : (a : Answer) → and_then a (Ok tt) ≡ a
+      rest (Ok _) = refl
+      rest (Err r) = refl

@@ -4,7 +4,7 @@ use mathlib.Core.Path.{◌≡◌, refl}
 use mathlib.Core.List.{List, [], ◌∷◌, ◌++◌}
 use Rattle.tables.specs.Layout.{arguments_in, arguments_span_in, result_types_in, result_types_span_in, claim_in, claim_flag_in}
 use Rattle.tables.specs.Tables.{Tables, lent, cut}
-use Rattle.tables.specs.declared.Answer.TheVariants.{Accepted, Refused}
+use Rattle.std.specs.Prelude.{Ok, Err}
 use Rattle.tables.specs.declared.Refusal.TheVariants.{DefinedTwice}
 use Rattle.values.specs.Claims.{bases_after, put_claim, claims_after}
 use Rattle.values.specs.Guarded.{guarded_twice}
@@ -28,24 +28,24 @@ module_m a i k =
     (0 ∷ a ∷ [])
     (record { types = 1; values = 4; operations = 5; attributes = 0; blocks = 2; regions = 2; functions = 1 }))
 
-fine : guarded_twice (module_m 1 3 0) ≡ Accepted
+fine : guarded_twice (module_m 1 3 0) ≡ Ok tt
 unfolding values_twice defined_twice arguments_in arguments_span_in result_types_in result_types_span_in claim_in claim_flag_in
 fine = refl
 
 -- listed twice; listed and declared; claimed by a lower value; a claim of no declared result is none
-listed_twice_lem : guarded_twice (module_m 0 3 0) ≡ Refused (DefinedTwice 0)
+listed_twice_lem : guarded_twice (module_m 0 3 0) ≡ Err (DefinedTwice 0)
 unfolding values_twice defined_twice arguments_in arguments_span_in result_types_in result_types_span_in claim_in claim_flag_in
 listed_twice_lem = refl
 
-listed_and_declared : guarded_twice (module_m 2 3 0) ≡ Refused (DefinedTwice 2)
+listed_and_declared : guarded_twice (module_m 2 3 0) ≡ Err (DefinedTwice 2)
 unfolding values_twice defined_twice arguments_in arguments_span_in result_types_in result_types_span_in claim_in claim_flag_in
 listed_and_declared = refl
 
-claimed_before : guarded_twice (module_m 1 1 0) ≡ Refused (DefinedTwice 3)
+claimed_before : guarded_twice (module_m 1 1 0) ≡ Err (DefinedTwice 3)
 unfolding values_twice defined_twice arguments_in arguments_span_in result_types_in result_types_span_in claim_in claim_flag_in
 claimed_before = refl
 
-undeclared : guarded_twice (module_m 3 1 1) ≡ Accepted
+undeclared : guarded_twice (module_m 3 1 1) ≡ Ok tt
 unfolding values_twice defined_twice arguments_in arguments_span_in result_types_in result_types_span_in claim_in claim_flag_in
 undeclared = refl
 

@@ -18,7 +18,7 @@ use Rattle.tables.specs.Tables.{Tables, lent, result_types, claim, declared}
 use Rattle.tables.specs.Value.{is_claim, value_of}
 use Rattle.tables.specs.declared.Claim.{Claim}
 use Rattle.tables.specs.declared.Claim.TheVariants.{Result, Nothing}
-use Rattle.tables.specs.declared.Answer.TheVariants.{Accepted}
+use Rattle.std.specs.Prelude.{Ok}
 use Rattle.listed.proofs.Find.{find_none, find_same}
 use Rattle.values.specs.Results.{declared_in}
 use Rattle.values.specs.Guarded.{guarded_twice}
@@ -189,11 +189,11 @@ claimed_none x i k (suc v) e w h =
     go q true t r = rw (eqb-true w v t) q
     go q false t r = let n : w ≡ v → ⊥ = eqb-false w v t in r (omega (arith, n))
 
-accepted : (found : Option ℕ) → refused found ≡ Accepted → found ≡ none
+accepted : (found : Option ℕ) → refused found ≡ Ok tt → found ≡ none
 accepted none e = refl
 accepted (some v) e = absurd (let z : ◌≡◌ {A = ℕ} 0 1 = cc in omega arith)
 
-module _ (x : Tables) (passed : values_twice x ≡ Accepted) where
+module _ (x : Tables) (passed : values_twice x ≡ Ok tt) where
   not_twice : (v : ℕ) → v < x.counts.values → twice_by x (count v (all_arguments x)) v (claim x v) ≡ false
   unfolding values_twice defined_twice
   not_twice v h = find_none (defined_twice x) 0 x.counts.values v (accepted _ passed) (omega arith) (omega arith)

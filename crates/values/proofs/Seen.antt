@@ -13,8 +13,8 @@ use Rattle.tables.specs.Tables.{Tables, result_types, claim, declared}
 use Rattle.tables.specs.Value.{is_claim, value_of}
 use Rattle.tables.specs.declared.Claim.{Claim}
 use Rattle.tables.specs.declared.Claim.TheVariants.{Result, Nothing}
-use Rattle.tables.specs.declared.Answer.{Answer}
-use Rattle.tables.specs.declared.Answer.TheVariants.{Accepted}
+use Rattle.tables.specs.Answer.{Answer}
+use Rattle.std.specs.Prelude.{Ok}
 use Rattle.listed.specs.Marks.{mark_all}
 use Rattle.listed.proofs.Find.{find_same, find_at, find_low}
 use Rattle.listed.proofs.Marks.{cap, cap_once, cap_twice, mark_of}
@@ -102,5 +102,5 @@ module _ (x : Tables) (total : ℕ) (e : total ≡ base_of x x.counts.operations
   pub not_few : max_entries < total → declared_in x x.counts.operations ≤ max_entries → ⊥
   not_few h f = omega arith
 
-  pub many : max_entries < total → Accepted ≡ guarded_twice x
+  pub many : max_entries < total → Ok tt ≡ guarded_twice x
   many h = rw (lt-leb (declared_in x x.counts.operations) max_entries (omega arith))

@@ -1,14 +1,13 @@
 -- Code 4: "a value is listed as argument twice, or listed and a declared result, or claims one that a lower id claims | lowest such
 -- value, 0". Arguments of unattached blocks count too; a claim of a result that is not declared is none.
-use Rattle.std.specs.Prelude.{ℕ, zero, suc, Bool, false, ◌&&◌, ◌||◌, List, ltb}
+use Rattle.std.specs.Prelude.{ℕ, zero, suc, Bool, false, ◌&&◌, ◌||◌, List, ltb, Ok, Err}
 use Rattle.std.proofs.Math.Option.{Option, some, none}
 use Rattle.cells.specs.Lists.{below, flat, count, find}
 use Rattle.tables.specs.Tables.{Tables, arguments, claim, declared}
 use Rattle.tables.specs.Value.{is_claim}
 use Rattle.tables.specs.declared.Claim.{Claim}
 use Rattle.tables.specs.declared.Claim.TheVariants.{Result, Nothing}
-use Rattle.tables.specs.declared.Answer.{Answer}
-use Rattle.tables.specs.declared.Answer.TheVariants.{Accepted, Refused}
+use Rattle.tables.specs.Answer.{Answer}
 use Rattle.tables.specs.declared.Refusal.TheVariants.{DefinedTwice}
 
 -- the arguments of all blocks
@@ -29,8 +28,8 @@ unfoldable pub defined_twice : Tables → ℕ → Bool
 defined_twice x v = twice_by x (count v (all_arguments x)) v (claim x v)
 
 abbrev pub refused : Option ℕ → Answer
-refused none = Accepted
-refused (some v) = Refused (DefinedTwice v)
+refused none = Ok tt
+refused (some v) = Err (DefinedTwice v)
 
 unfoldable pub values_twice : Tables → Answer
 values_twice x = refused (find (defined_twice x) (below x.counts.values))

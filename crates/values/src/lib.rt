@@ -145,11 +145,11 @@ fn lowest_seen(
         let times = cells::at(marks, value);
         let claim = tables::claim_of(v, n, value);
         if seen_twice(o, l, n, bases, claims, times, value + 1, claim) {
-            return Answer::Refused(Refusal::DefinedTwice { value });
+            return Err(Refusal::DefinedTwice { value });
         }
         value += 1;
     }
-    Answer::Accepted
+    Ok(())
 }
 
 // The lowest value that is defined twice, where the lent cells have room. Where code 1 passed, no more results are declared than there may
@@ -168,7 +168,7 @@ fn claim_values(
     let m = tables::cut_counts(n);
     let total = fill_bases(o, l, m, bases);
     if tables::MAX_ENTRIES < total {
-        return Answer::Accepted;
+        return Ok(());
     }
     let mut marks = [0u64; 4096];
     mark_arguments(b, l, m, &mut marks);

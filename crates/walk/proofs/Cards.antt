@@ -5,7 +5,7 @@ use mathlib.Core.List.{[], ◌∷◌}
 use Rattle.cells.specs.Lists.{below, flat}
 use Rattle.tables.specs.Tables.{Tables, nest}
 use Rattle.tables.specs.Layout.{functions_in, regions_in, regions_span_in, blocks_in, blocks_span_in, operations_in, operations_span_in}
-use Rattle.tables.specs.declared.Answer.TheVariants.{Accepted, Refused}
+use Rattle.std.specs.Prelude.{Ok, Err}
 use Rattle.tables.specs.declared.Refusal.TheVariants.{TooDeep}
 use Rattle.walk.specs.Order.{operation_order, block_order, region_order, order_to, order}
 use Rattle.walk.specs.Depth.{operation_depth, block_depth, region_depth, too_deep}
@@ -20,11 +20,11 @@ nested d = nest
     (flat (λ i. i ∷ i ∷ (i + 1) ∷ []) (below d))
     (record { types = 0; values = 0; operations = d + 1; attributes = 0; blocks = d; regions = d; functions = 1 })
 
-depth_32 : too_deep (nested 32) ≡ Accepted
+depth_32 : too_deep (nested 32) ≡ Ok tt
 unfolding too_deep region_depth block_depth operation_depth functions_in regions_in regions_span_in blocks_in blocks_span_in operations_in operations_span_in
 depth_32 = refl
 
-depth_33 : too_deep (nested 33) ≡ Refused (TooDeep 32)
+depth_33 : too_deep (nested 33) ≡ Err (TooDeep 32)
 unfolding too_deep region_depth block_depth operation_depth functions_in regions_in regions_span_in blocks_in blocks_span_in operations_in operations_span_in
 depth_33 = refl
 

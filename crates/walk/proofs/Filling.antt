@@ -8,8 +8,8 @@ use lib.ListN.{length, set, replicate, length-append}
 use lib.Seq.{take-nil, drop-nil, set_at}
 use borrow.Author.Tests.{lt-ltb, le-ltb}
 use Rattle.cells.specs.Cell.{copied}
-use Rattle.tables.specs.declared.Answer.{Answer}
-use Rattle.tables.specs.declared.Answer.TheVariants.{Accepted, Refused}
+use Rattle.tables.specs.Answer.{Answer}
+use Rattle.std.specs.Prelude.{Ok, Err}
 use Rattle.tables.specs.declared.Refusal.TheVariants.{TooDeep}
 use Rattle.walk.specs.Written.{Filled, filled, written, push, push_all, Visited, walked}
 use Rattle.walk.specs.declared.Walked.{Walked}
@@ -52,18 +52,18 @@ all_written out xs =
 -- the answer of a walk that nothing stops, and of one that is refused
 -- a visit of all functions that is fine
 pub walked_whole : (w : Walked) (a : Answer) (m : ℕ) (out out' xs : List ℕ) → w ≡ Fine m → Visited w out' (filled out 0) a xs
-    → (Accepted ≡ a) × (filled out' m ≡ walked a out xs)
+    → ((Ok tt) ≡ a) × (filled out' m ≡ walked a out xs)
 walked_whole (Fine k) a m out out' xs e v =
-    let h : a ≡ Accepted = sym v.answer in
+    let h : a ≡ (Ok tt) = sym v.answer in
     let k-is : k ≡ m = cc in
     (sym h, rw (h, ← k-is) (v.reached ∙ all_written out xs))
 walked_whole (Deep i) a m out out' xs e v = absurd (let z : ◌≡◌ {A = ℕ} 0 1 = cc in omega arith)
 
 -- and one that is not, whose list is cleared
 pub walked_refused : (w : Walked) (a : Answer) (i : ℕ) (out out' cleared xs : List ℕ) → w ≡ Deep i → Visited w out' (filled out 0) a xs
-    → cleared ≡ replicate (length out') 0 → length out' ≡ length out → (Refused (TooDeep i) ≡ a) × (filled cleared 0 ≡ walked a out xs)
+    → cleared ≡ replicate (length out') 0 → length out' ≡ length out → (Err (TooDeep i) ≡ a) × (filled cleared 0 ≡ walked a out xs)
 walked_refused (Fine k) a i out out' cleared xs e v c l = absurd (let z : ◌≡◌ {A = ℕ} 0 1 = cc in omega arith)
 walked_refused (Deep k) a i out out' cleared xs e v c l =
     let k-is : k ≡ i = cc in
-    let h : Refused (TooDeep i) ≡ a = ap (λ (j : ℕ). Refused (TooDeep j)) (sym k-is) ∙ v.answer in
+    let h : Err (TooDeep i) ≡ a = ap (λ (j : ℕ). Err (TooDeep j)) (sym k-is) ∙ v.answer in
     (h, rw (← h, c, l))

@@ -14,9 +14,8 @@ use Rattle.cells.proofs.Rows.{lt_or_ge}
 use Rattle.tables.specs.Sizes.{max_depth}
 use Rattle.tables.specs.Layout.{regions_span_in, regions_in, blocks_span_in, blocks_in, operations_span_in, operations_in}
 use Rattle.tables.specs.Tables.{Tables, functions, regions, blocks, operations}
-use Rattle.tables.specs.Answer.{and_then, each}
-use Rattle.tables.specs.declared.Answer.{Answer}
-use Rattle.tables.specs.declared.Answer.TheVariants.{Accepted, Refused}
+use Rattle.tables.specs.Answer.{and_then, each, Answer}
+use Rattle.std.specs.Prelude.{Ok, Err}
 use Rattle.walk.specs.Order.{operation_order, block_order, region_order, order_to, order}
 use Rattle.walk.specs.Depth.{opens, operation_depth, block_depth, region_depth, too_deep}
 use Rattle.walk.specs.Written.{filled, written}
@@ -182,31 +181,31 @@ module _
 
 -- ---- where code 3 passes
 
-both_accepted : (a b : Answer) → and_then a b ≡ Accepted → (a ≡ Accepted) × (b ≡ Accepted)
-both_accepted Accepted b e = (refl, e)
-both_accepted (Refused r) b e = absurd (let z : ◌≡◌ {A = ℕ} 0 1 = cc in omega arith)
+both_accepted : (a b : Answer) → and_then a b ≡ Ok tt → (a ≡ Ok tt) × (b ≡ Ok tt)
+both_accepted (Ok _) b e = (refl, e)
+both_accepted (Err r) b e = absurd (let z : ◌≡◌ {A = ℕ} 0 1 = cc in omega arith)
 
-opens_none : (i : ℕ) (js : List ℕ) → opens i js ≡ Accepted → js ≡ []
+opens_none : (i : ℕ) (js : List ℕ) → opens i js ≡ Ok tt → js ≡ []
 opens_none i [] e = refl
 opens_none i (j ∷ js) e = absurd (let z : ◌≡◌ {A = ℕ} 0 1 = cc in omega arith)
 
-flat_same : (f : ℕ → Answer) (g h : ℕ → List ℕ) → ((k : ℕ) → f k ≡ Accepted → g k ≡ h k) → (ks : List ℕ) → each f ks ≡ Accepted → flat g ks ≡ flat h ks
+flat_same : (f : ℕ → Answer) (g h : ℕ → List ℕ) → ((k : ℕ) → f k ≡ Ok tt → g k ≡ h k) → (ks : List ℕ) → each f ks ≡ Ok tt → flat g ks ≡ flat h ks
 flat_same f g h s [] e = refl
 flat_same f g h s (k ∷ ks) e =
     let q = both_accepted (f k) (each f ks) e in
     rw (s k q.0, flat_same f g h s ks q.1)
 
 module _ (x : Tables) where
-  module _ (f : ℕ → ℕ → Answer) (g h : ℕ → List ℕ) (s : (i k : ℕ) → f i k ≡ Accepted → g k ≡ h k) where
-    operation_same : (i : ℕ) → operation_depth f x i ≡ Accepted → operation_order g x i ≡ operation_order h x i
+  module _ (f : ℕ → ℕ → Answer) (g h : ℕ → List ℕ) (s : (i k : ℕ) → f i k ≡ Ok tt → g k ≡ h k) where
+    operation_same : (i : ℕ) → operation_depth f x i ≡ Ok tt → operation_order g x i ≡ operation_order h x i
     unfolding operation_order operation_depth
     operation_same i e = ap (λ (ks : List ℕ). i ∷ ks) (flat_same (f i) g h (s i) (regions x i) e)
 
-    block_same : (j : ℕ) → block_depth f x j ≡ Accepted → block_order g x j ≡ block_order h x j
+    block_same : (j : ℕ) → block_depth f x j ≡ Ok tt → block_order g x j ≡ block_order h x j
     unfolding block_order block_depth
     block_same j e = flat_same (operation_depth f x) (operation_order g x) (operation_order h x) operation_same (operations x j) e
 
-  region_same : (d e : ℕ) → e ≤ d → (i k : ℕ) → region_depth e x i k ≡ Accepted → region_order d x k ≡ region_order e x k
+  region_same : (d e : ℕ) → e ≤ d → (i k : ℕ) → region_depth e x i k ≡ Ok tt → region_order d x k ≡ region_order e x k
   unfolding region_order region_depth
   region_same zero zero l i k h = refl
   region_same (suc d) zero l i k h = rw (opens_none i (blocks x k) h)
@@ -216,7 +215,7 @@ module _ (x : Tables) where
       (block_same (region_depth e x) (region_order d x) (region_order e x) (region_same d e (le_of_suc-le-suc l))) (blocks x k) h
 
   -- the depth cuts nothing off, so every reachable operation stands in the order
-  pub depth_cuts_nothing : too_deep x ≡ Accepted → (d : ℕ) → order_to (max_depth + d) x ≡ order x
+  pub depth_cuts_nothing : too_deep x ≡ Ok tt → (d : ℕ) → order_to (max_depth + d) x ≡ order x
   unfolding too_deep order_to
   depth_cuts_nothing h d =
       flat_same (operation_depth (region_depth max_depth x) x) (operation_order (region_order (max_depth + d) x) x) (operation_order (region_order max_depth x) x)

@@ -9,10 +9,9 @@ use Rattle.cells.specs.declared.Span.{Span}
 use Rattle.cells.proofs.Parts.{left_step, left_end}
 use Rattle.tables.specs.Tables.{Tables, regions, regions_span, blocks, operations}
 use Rattle.tables.specs.Layout.{regions_in, functions_in}
-use Rattle.tables.specs.Answer.{each}
+use Rattle.tables.specs.Answer.{each, Answer}
 use Rattle.tables.specs.declared.Counts.{Counts}
-use Rattle.tables.specs.declared.Answer.{Answer}
-use Rattle.tables.specs.declared.Answer.TheVariants.{Accepted, Refused}
+use Rattle.std.specs.Prelude.{Ok, Err}
 use Rattle.tables.specs.declared.Refusal.TheVariants.{TooDeep}
 use Rattle.walk.specs.Order.{operation_order, block_order, region_order}
 use Rattle.walk.specs.Depth.{opens, operation_depth, block_depth, region_depth}
@@ -40,12 +39,12 @@ module _ {f : ℕ → Answer} {g : ℕ → List ℕ} {xs out₀ : List ℕ} {use
   module _ {w : Walked} {out' : List ℕ} (h : i < length xs) (v : Visited w out' (filled out next) (f (get_or xs i 0)) (g (get_or xs i 0))) where
     pub going_deep : {k : ℕ} {out'' : List ℕ} → w ≡ Deep k → Visited (Deep k) out'' (filled out₀ used) (each f xs) (flat g xs)
     going_deep {k} e =
-        let q : f (get_or xs i 0) ≡ Refused (TooDeep k) = sym v.answer ∙ ap told e in
+        let q : f (get_or xs i 0) ≡ Err (TooDeep k) = sym v.answer ∙ ap told e in
         record { answer = rw (left_step xs i 0 h, q) at inv.said; reached = tt }
 
     pub going_more : {m : ℕ} → w ≡ Fine m → Going f g xs out₀ used out' m (i + 1)
     going_more {m} e =
-        let q : f (get_or xs i 0) ≡ Accepted = sym v.answer ∙ ap told e in
+        let q : f (get_or xs i 0) ≡ (Ok tt) = sym v.answer ∙ ap told e in
         let u : filled out' m ≡ push_all (filled out next) (g (get_or xs i 0)) =
         subst (λ (z : Walked). Reached z out' (push_all (filled out next) (g (get_or xs i 0)))) e v.reached in
         record {
@@ -99,7 +98,7 @@ module _ (x : Tables) (d owner id : ℕ) {xs : List ℕ} (z : d ≡ 0) (e : xs �
       let q : blocks x id ≡ [] = sym e ∙ left_end xs 0 0 (omega arith) in
       record { answer = rw (z, q); reached = rw z }
 
-  opens_some : (js : List ℕ) → (length js ≡ 0 → ⊥) → Refused (TooDeep owner) ≡ opens owner js
+  opens_some : (js : List ℕ) → (length js ≡ 0 → ⊥) → Err (TooDeep owner) ≡ opens owner js
   opens_some [] h = absurd (h refl)
   opens_some (j ∷ js) h = refl
 

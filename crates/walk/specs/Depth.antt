@@ -1,17 +1,15 @@
 -- Code 3: "depth 33 reached from a function | the first operation that opens it, 0". "Depth counts a function's blocks as 1." A block
 -- opens a depth, a region without blocks does not.
-use Rattle.std.specs.Prelude.{ℕ, zero, suc, List, [], ◌∷◌}
+use Rattle.std.specs.Prelude.{ℕ, zero, suc, List, [], ◌∷◌, Ok, Err}
 use Rattle.tables.specs.Sizes.{max_depth}
 use Rattle.tables.specs.Tables.{Tables, functions, regions, blocks, operations}
-use Rattle.tables.specs.Answer.{each}
-use Rattle.tables.specs.declared.Answer.{Answer}
-use Rattle.tables.specs.declared.Answer.TheVariants.{Accepted, Refused}
+use Rattle.tables.specs.Answer.{each, Answer}
 use Rattle.tables.specs.declared.Refusal.TheVariants.{TooDeep}
 
 -- operation i opens a block, where there is one
 abbrev pub opens : ℕ → List ℕ → Answer
-opens i [] = Accepted
-opens i (j ∷ js) = Refused (TooDeep i)
+opens i [] = Ok tt
+opens i (j ∷ js) = Err (TooDeep i)
 
 -- the regions of operation i, each judged by `inner`
 unfoldable pub operation_depth : (ℕ → ℕ → Answer) → Tables → ℕ → Answer

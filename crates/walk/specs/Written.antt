@@ -1,8 +1,7 @@
 -- What the walk answers and leaves: a lent list is filled from the front with the operations in walk order, as far as it has room.
-use Rattle.std.specs.Prelude.{ℕ, ◌+◌, min, ◌≡◌, cond, List, [], ◌∷◌, length, set, replicate, ltb}
+use Rattle.std.specs.Prelude.{ℕ, ◌+◌, min, ◌≡◌, cond, List, [], ◌∷◌, length, set, replicate, ltb, Ok, Err}
 use Rattle.cells.specs.Cell.{copied}
-use Rattle.tables.specs.declared.Answer.{Answer}
-use Rattle.tables.specs.declared.Answer.TheVariants.{Accepted, Refused}
+use Rattle.tables.specs.Answer.{Answer}
 use Rattle.tables.specs.declared.Refusal.TheVariants.{TooDeep}
 use Rattle.walk.specs.declared.Walked.{Walked}
 use Rattle.walk.specs.declared.Walked.TheVariants.{Fine, Deep}
@@ -21,8 +20,8 @@ written out xs = filled (copied xs out) (min (length xs) (length out))
 
 -- what an answer tells, and how many operations it says were written
 abbrev pub told : Walked → Answer
-told (Fine m) = Accepted
-told (Deep i) = Refused (TooDeep i)
+told (Fine m) = Ok tt
+told (Deep i) = Err (TooDeep i)
 
 abbrev pub wrote : Walked → ℕ
 wrote (Fine m) = m
@@ -30,8 +29,8 @@ wrote (Deep i) = 0
 
 -- the order is written where nothing is refused; a refusal leaves the list all zero
 abbrev pub walked : Answer → List ℕ → List ℕ → Filled
-walked Accepted out xs = written out xs
-walked (Refused r) out xs = filled (replicate (length out) 0) 0
+walked (Ok _) out xs = written out xs
+walked (Err r) out xs = filled (replicate (length out) 0) 0
 
 -- ---- on the way: the next free place goes by value
 

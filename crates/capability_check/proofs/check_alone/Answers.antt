@@ -2,8 +2,7 @@
 use native.Mathlib.Omega.{arith}
 use mathlib.Core.Path.{sym, ap, ◌∙◌}
 use Rattle.tables.specs.Tables.{lent}
-use Rattle.tables.specs.Answer.{and_then}
-use Rattle.tables.specs.declared.Answer.{Answer}
+use Rattle.tables.specs.Answer.{and_then, Answer}
 use Rattle.walk.specs.Order.{order}
 use Rattle.table_checks.specs.Checks.{target_check, table_checks}
 use Rattle.table_checks.proofs.Turn.{stops, passes}

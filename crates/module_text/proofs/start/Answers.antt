@@ -1,7 +1,7 @@
 -- `start` meets its contract.
 use mathlib.Core.Path.{◌∙◌, ap}
 use Rattle.tables.specs.Tables.{lent}
-use Rattle.tables.specs.declared.Answer.{Answer}
+use Rattle.tables.specs.Answer.{Answer}
 use Rattle.house.specs.House.{no_counts}
 use Rattle.house.specs.Step.{state_of, settled}
 use Rattle.house.specs.declared.Reading.{Reading}

@@ -5,7 +5,7 @@ use mathlib.Core.List.{List, []}
 use Rattle.cells.specs.declared.Span.{Span}
 use Rattle.tables.specs.Layout.{attributes_in}
 use Rattle.tables.specs.Tables.{Tables, lent, opcode}
-use Rattle.tables.specs.declared.Answer.TheVariants.{Accepted}
+use Rattle.std.specs.Prelude.{Ok}
 use Rattle.lookups.specs.Lookup.{entry_in, flushes_in}
 use Rattle.lookups.specs.Verdict.{fail_if}
 use Rattle.rules_small.specs.Rounding.{flushed}
@@ -14,7 +14,7 @@ use Rattle.tables.proofs.Each.{ends, goes_on}
 use Rattle.rules.proofs.verify_operation.Goals as goal
 
 -- where there is no attribute there is none that flushes
-unflushed : (sheet : List ℕ) (x : Tables) (i : ℕ) → (attributes_in x.o x.counts i).len ≡ 0 → Accepted ≡ judged i (flushed sheet x i)
+unflushed : (sheet : List ℕ) (x : Tables) (i : ℕ) → (attributes_in x.o x.counts i).len ≡ 0 → Ok tt ≡ judged i (flushed sheet x i)
 unfolding flushed flushes_in entry_in fail_if
 unflushed sheet x i e = rw e
 

@@ -6,7 +6,7 @@ use Rattle.listed.specs.Twice.{listed_twice}
 use Rattle.walk.specs.Depth.{too_deep}
 use Rattle.walk.specs.Order.{order}
 use Rattle.walk.specs.Written.{walked}
-use Rattle.tables.specs.declared.Answer.TheVariants.{Accepted}
+use Rattle.std.specs.Prelude.{Ok}
 use Rattle.values.specs.Guarded.{guarded_twice}
 use Rattle.table_checks.proofs.Turn.{settles_refused, settles_fine, stops, passes, walk_refused, walk_fine, cleared, no_refusal}
 use Rattle.table_checks.proofs.Bare.{listed_bare, depth_bare, order_bare, values_bare}
@@ -59,5 +59,5 @@ returns-in_default-values_claimed c t a =
     let q = passes _ (listed_twice (cut x)) rest e c.in_default.is
     ∙ passes _ (too_deep x) (guarded_twice (cut x)) (depth_bare t g.v.now g.o.now a g.b.now g.r.now g.f.now g.l.now g.n) d.0
     ∙ sym v ∙ c.in_default-values_claimed.is in
-    let order_is = d.1 ∙ ap (walked Accepted g.list.now) (order_bare t g.v.now g.o.now a g.b.now g.r.now g.f.now g.l.now g.n) in
+    let order_is = d.1 ∙ ap (walked (Ok tt) g.list.now) (order_bare t g.v.now g.o.now a g.b.now g.r.now g.f.now g.l.now g.n) in
     (settles_fine _ _ _ _ (order x) q order_is, λ k. c.values_claimed.ensures.1)

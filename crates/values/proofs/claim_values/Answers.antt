@@ -6,7 +6,7 @@ use mathlib.Core.List.{List, []}
 use Rattle.tables.specs.Sizes.{max_values, max_operations, cut_counts}
 use Rattle.tables.specs.Tables.{lent, cut}
 use Rattle.tables.specs.declared.Counts.{Counts}
-use Rattle.tables.specs.declared.Answer.{Answer}
+use Rattle.tables.specs.Answer.{Answer}
 use Rattle.values.specs.Claims.{bases_after, claims_after, lowest_seen}
 use Rattle.values.specs.Guarded.{Claimed}
 use Rattle.values.proofs.Seen.{seen_answer, few, many, not_few}
