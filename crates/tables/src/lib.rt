@@ -300,6 +300,55 @@ impl<'a> Tables<'a> {
         self.counts
     }
 
+    // The cells of each table as they were lent, and the list entries.
+    pub fn type_cells(&self) -> &'a [u64]
+        ensures { result.now ≡ self.now.t }
+    {
+        self.types
+    }
+
+    pub fn value_cells(&self) -> &'a [u64]
+        ensures { result.now ≡ self.now.v }
+    {
+        self.values
+    }
+
+    pub fn operation_cells(&self) -> &'a [u32]
+        ensures { result.now ≡ self.now.o }
+    {
+        self.operations
+    }
+
+    pub fn attribute_cells(&self) -> &'a [u32]
+        ensures { result.now ≡ self.now.a }
+    {
+        self.attributes
+    }
+
+    pub fn block_cells(&self) -> &'a [u32]
+        ensures { result.now ≡ self.now.b }
+    {
+        self.blocks
+    }
+
+    pub fn region_cells(&self) -> &'a [u32]
+        ensures { result.now ≡ self.now.r }
+    {
+        self.regions
+    }
+
+    pub fn function_cells(&self) -> &'a [u32]
+        ensures { result.now ≡ self.now.f }
+    {
+        self.functions
+    }
+
+    pub fn entries(&self) -> &'a [u64]
+        ensures { result.now ≡ self.now.l }
+    {
+        self.entries
+    }
+
     // The same tables, with counts that no size is passed by.
     pub fn cut(&self) -> Tables<'a>
         ensures { result ≡ cut self.now }
