@@ -1,8 +1,8 @@
 -- A number read digit by digit, as the loop of `unsigned` does, is `unsigned_of`; and what a minus makes of it is `signed_of`.
+use Rattle.std.specs.Prelude.{nat_eq, Option, Some, None}
 use Prim.Native.Nat.{ℕ, zero, suc, ◌+◌, ◌-◌, ◌*◌, ◌^◌, ◌≤◌, ◌<◌}
 use mathlib.Core.Bool.{Bool, true, false, cond, ◌&&◌}
 use mathlib.Core.List.{List, [], ◌∷◌}
-use mathlib.Core.Option.{Option, some, none}
 use mathlib.Core.Path.{◌≡◌, refl, sym, ◌∙◌, ap}
 use native.Mathlib.Omega.{arith}
 use native.Mathlib.Numerals.{add-one}
@@ -11,18 +11,24 @@ use lib.ListN.{length, get_or, take, drop, drop_of_length-le}
 use lib.IntN.{ℤ, pos, negsuc}
 use lib.Seq.{drop-cons, take_all}
 use borrow.Author.Tests.{le-leb, lt-leb, leb-true, leb-false, lt-ltb, le-ltb, ltb-true, ltb-false, eq-eqb, ne_eqb, eqb-true}
-use Rattle.fields.specs.declared.Number.{Number}
-use Rattle.fields.specs.declared.Number.TheVariants.{Is, Bad}
 use Rattle.fields.specs.Number.{is_digit, all_digits, value_after, is_decimal, decimal_of, plain, minus, written, up_to, within, unsigned_of, signed_of}
+
+-- what `is_empty` says of a length
+module _ {t : Bool} {n : ℕ} (e : t ≡ nat_eq n 0) where
+  pub none_left : t ≡ true → n ≡ 0
+  none_left k = grind arith
+
+  pub some_left : t ≡ false → 0 < n
+  some_left k = grind arith
 
 -- the byte b may follow digits of the value x
 abbrev pub follows : ℕ → ℕ → ℕ → Bool
 follows max x b = is_digit b && leb (x * 10 + (b - 48)) max
 
 -- what reading on after digits of the value x gives
-unfoldable pub read_on : ℕ → ℕ → List ℕ → Number
-read_on max x [] = Is x
-read_on max x (b ∷ bs) = cond (follows max x b) (read_on max (x * 10 + (b - 48)) bs) Bad
+unfoldable pub read_on : ℕ → ℕ → List ℕ → Option ℕ
+read_on max x [] = Some x
+read_on max x (b ∷ bs) = cond (follows max x b) (read_on max (x * 10 + (b - 48)) bs) None
 
 value_grows : (x : ℕ) (bs : List ℕ) → x ≤ value_after x bs
 unfolding value_after
@@ -33,13 +39,13 @@ both_false : (t : Bool) → t && false ≡ false
 both_false true = refl
 both_false false = refl
 
-bad_anyway : (t : Bool) → cond t Bad Bad ≡ Bad
+bad_anyway : (t : Bool) → ◌≡◌ {A = Option ℕ} (cond t None None) None
 bad_anyway true = refl
 bad_anyway false = refl
 
 -- the bound is asked at each digit, or once at the end
-abbrev bounded : ℕ → ℕ → List ℕ → Number
-bounded max x bs = cond (all_digits bs) (cond (leb (value_after x bs) max) (Is (value_after x bs)) Bad) Bad
+abbrev bounded : ℕ → ℕ → List ℕ → Option ℕ
+bounded max x bs = cond (all_digits bs) (cond (leb (value_after x bs) max) (Some (value_after x bs)) None) None
 
 read_on_lem : (max x : ℕ) (bs : List ℕ) → x ≤ max → read_on max x bs ≡ bounded max x bs
 unfolding read_on all_digits value_after
@@ -50,7 +56,7 @@ read_on_lem max x (b ∷ bs) h = by (is_digit b) (leb y max) refl (λ k. read_on
     y = x * 10 + (b - 48)
 
     by : (d t : Bool) → leb y max ≡ t → (y ≤ max → read_on max y bs ≡ bounded max y bs)
-        → cond (d && t) (read_on max y bs) Bad ≡ cond (d && all_digits bs) (cond (leb (value_after y bs) max) (Is (value_after y bs)) Bad) Bad
+        → cond (d && t) (read_on max y bs) None ≡ cond (d && all_digits bs) (cond (leb (value_after y bs) max) (Some (value_after y bs)) None) None
     by false t e ih = refl
     by true true e ih = ih (leb-true y max e)
     by true false e ih =
@@ -59,10 +65,10 @@ read_on_lem max x (b ∷ bs) h = by (is_digit b) (leb y max) refl (λ k. read_on
         rw (lt-leb (value_after y bs) max (omega arith)) (sym (bad_anyway (all_digits bs)))
 
 -- a minus is no digit, so what it starts is no decimal number
-no_minus : (max : ℕ) (o : Option ℕ) → up_to max (minus o) ≡ Bad
-no_minus max none = refl
-no_minus max (some zero) = refl
-no_minus max (some (suc n)) = refl
+no_minus : (max : ℕ) (o : Option ℕ) → up_to max (minus o) ≡ None
+no_minus max None = refl
+no_minus max (Some zero) = refl
+no_minus max (Some (suc n)) = refl
 
 minus_first : (b : ℕ) (bs : List ℕ) → b ≡ 45 → is_decimal (b ∷ bs) ≡ false
 unfolding is_decimal all_digits
@@ -80,12 +86,12 @@ unsigned_decimal max (b ∷ bs) = by (eqb b 45) refl
 
 -- ---- the ways through the loop
 
-pub empty : (max : ℕ) (s : List ℕ) → length s ≡ 0 → Bad ≡ unsigned_of max s
+pub empty : (max : ℕ) (s : List ℕ) → length s ≡ 0 → None ≡ unsigned_of max s
 unfolding unsigned_of written
 empty max [] h = refl
 empty max (b ∷ bs) h = absurd (omega arith)
 
-pub zero_first : (max : ℕ) (s : List ℕ) → get_or s 0 0 ≡ 48 → 1 < length s → Bad ≡ unsigned_of max s
+pub zero_first : (max : ℕ) (s : List ℕ) → get_or s 0 0 ≡ 48 → 1 < length s → None ≡ unsigned_of max s
 unfolding decimal_of is_decimal
 zero_first max [] e h = absurd (omega arith)
 zero_first max (b ∷ []) e h = absurd (omega arith)
@@ -99,7 +105,7 @@ bounded_is : (max : ℕ) (s : List ℕ) → is_decimal s ≡ all_digits s → bo
 unfolding decimal_of
 bounded_is max s e = by (all_digits s) ∙ sym (unsigned_decimal max s ∙ rw e)
   where
-    by : (t : Bool) → cond t (cond (leb (value_after 0 s) max) (Is (value_after 0 s)) Bad) Bad ≡ up_to max (plain (cond t (some (value_after 0 s)) none))
+    by : (t : Bool) → cond t (cond (leb (value_after 0 s) max) (Some (value_after 0 s)) None) None ≡ up_to max (plain (cond t (Some (value_after 0 s)) None))
     by true = refl
     by false = refl
 
@@ -111,7 +117,7 @@ start max (b ∷ c ∷ bs) h k =
     read_on_lem max 0 (b ∷ c ∷ bs) (omega arith) ∙ bounded_is max (b ∷ c ∷ bs) (rw (ne_eqb b 48 (λ e. let l = k e in omega arith)))
 
 module _ (max x i : ℕ) (s : List ℕ) (h : i < length s) where
-  pub stuck : follows max x (get_or s i 0) ≡ false → Bad ≡ read_on max x (drop i s)
+  pub stuck : follows max x (get_or s i 0) ≡ false → None ≡ read_on max x (drop i s)
   unfolding read_on
   stuck e = rw (drop-cons s i 0 h, e)
 
@@ -119,7 +125,7 @@ module _ (max x i : ℕ) (s : List ℕ) (h : i < length s) where
   unfolding read_on
   onward e = rw (drop-cons s i 0 h, e, add-one)
 
-pub ended : (max x i : ℕ) (s : List ℕ) → length s ≤ i → Is x ≡ read_on max x (drop i s)
+pub ended : (max x i : ℕ) (s : List ℕ) → length s ≤ i → Some x ≡ read_on max x (drop i s)
 unfolding read_on
 ended max x i s h = rw (drop_of_length-le s h)
 
@@ -140,16 +146,16 @@ module _ (max x b : ℕ) where
 -- ---- signed
 
 -- no number lies in an empty range
-pub nothing_within : (half : ℕ) (s : List ℕ) → half ≡ 0 → Bad ≡ signed_of half s
+pub nothing_within : (half : ℕ) (s : List ℕ) → half ≡ 0 → None ≡ signed_of half s
 unfolding signed_of
 nothing_within half s e = rw e (by (written s))
   where
-    by : (o : Option ℤ) → Bad ≡ within 0 o
-    by none = refl
-    by (some (pos n)) = rw (le-ltb n 0 (omega arith))
-    by (some (negsuc n)) = rw (le-ltb n 0 (omega arith))
+    by : (o : Option ℤ) → None ≡ within 0 o
+    by None = refl
+    by (Some (pos n)) = rw (le-ltb n 0 (omega arith))
+    by (Some (negsuc n)) = rw (le-ltb n 0 (omega arith))
 
-pub signed_empty : (half : ℕ) (s : List ℕ) → length s ≡ 0 → Bad ≡ signed_of half s
+pub signed_empty : (half : ℕ) (s : List ℕ) → length s ≡ 0 → None ≡ signed_of half s
 unfolding signed_of written
 signed_empty half [] h = refl
 signed_empty half (b ∷ bs) h = absurd (omega arith)
@@ -168,20 +174,20 @@ signed_plain half (b ∷ bs) p h e = rw (ne_eqb b 45 e) (by (decimal_of (b ∷ b
         test false e = let l = ltb-false n half e in lt-leb n (half - 1) (omega arith) ∙ sym e
 
     by : (o : Option ℕ) → up_to (half - 1) (plain o) ≡ within half (plain o)
-    by none = refl
-    by (some n) = rw (same n)
+    by None = refl
+    by (Some n) = rw (same n)
 
 -- after a minus the size is nonzero, and at most half
-abbrev negated : Number → Number
-negated Bad = Bad
-negated (Is m) = cond (eqb m 0) Bad (Is (2 ^ 64 - m))
+abbrev negated : Option ℕ → Option ℕ
+negated None = None
+negated (Some m) = cond (eqb m 0) None (Some (2 ^ 64 - m))
 
 negated_is : (half : ℕ) (o : Option ℕ) → within half (minus o) ≡ negated (up_to half (plain o))
-negated_is half none = refl
-negated_is half (some zero) = rw (le-leb 0 half (omega arith))
-negated_is half (some (suc n)) = by (leb (suc n) half) refl
+negated_is half None = refl
+negated_is half (Some zero) = rw (le-leb 0 half (omega arith))
+negated_is half (Some (suc n)) = by (leb (suc n) half) refl
   where
-    by : (t : Bool) → leb (suc n) half ≡ t → cond (ltb n half) (Is (2 ^ 64 - suc n)) Bad ≡ negated (cond t (Is (suc n)) Bad)
+    by : (t : Bool) → leb (suc n) half ≡ t → cond (ltb n half) (Some (2 ^ 64 - suc n)) None ≡ negated (cond t (Some (suc n)) None)
     by true e = rw (lt-ltb n half (leb-true (suc n) half e), ne_eqb (suc n) 0 (λ z. omega arith))
     by false e = let h = leb-false (suc n) half e in rw (le-ltb n half (omega arith))
 
@@ -195,12 +201,12 @@ signed_minus half [] h e = absurd (omega arith)
 signed_minus half (b ∷ bs) h e =
     rw (eq-eqb b 45 e, take_all (length (b ∷ bs) - 1) bs (omega arith), unsigned_decimal half bs) (negated_is half (decimal_of bs))
 
-module _ (half : ℕ) (s : List ℕ) (h : 0 < length s) (first : get_or s 0 0 ≡ 45) (r : Number) (read : r ≡ unsigned_of half (after_first s)) where
-  pub minus_bad : r ≡ Bad → Bad ≡ signed_of half s
+module _ (half : ℕ) (s : List ℕ) (h : 0 < length s) (first : get_or s 0 0 ≡ 45) (r : Option ℕ) (read : r ≡ unsigned_of half (after_first s)) where
+  pub minus_bad : r ≡ None → None ≡ signed_of half s
   minus_bad e = sym (signed_minus half s h first ∙ rw (← read, e))
 
-  pub minus_zero : (m : ℕ) → r ≡ Is m → m ≡ 0 → Bad ≡ signed_of half s
+  pub minus_zero : (m : ℕ) → r ≡ Some m → m ≡ 0 → None ≡ signed_of half s
   minus_zero m e z = sym (signed_minus half s h first ∙ rw (← read, e, eq-eqb m 0 z))
 
-  pub minus_size : (m : ℕ) → r ≡ Is m → (m ≡ 0 → ⊥) → m < 2 ^ 64 → Is (2 ^ 64 - 1 - m + 1) ≡ signed_of half s
-  minus_size m e z l = sym (signed_minus half s h first ∙ rw (← read, e, ne_eqb m 0 z) (ap Is (omega arith)))
+  pub minus_size : (m : ℕ) → r ≡ Some m → (m ≡ 0 → ⊥) → m < 2 ^ 64 → Some (2 ^ 64 - 1 - m + 1) ≡ signed_of half s
+  minus_size m e z l = sym (signed_minus half s h first ∙ rw (← read, e, ne_eqb m 0 z) (ap Some (omega arith)))

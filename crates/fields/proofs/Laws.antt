@@ -1,9 +1,9 @@
 -- What a reader may rely on, whatever reads: the number that is read is the number written and lies in the range, a number has one
 -- writing, and the parts of a text, put together again, are the text.
+use Rattle.std.specs.Prelude.{Option, Some, None}
 use Prim.Native.Nat.{ℕ, zero, suc, ◌+◌, ◌-◌, ◌*◌, ◌^◌, ◌≤◌, ◌<◌}
 use mathlib.Core.Bool.{Bool, true, false, cond, not, ◌&&◌}
 use mathlib.Core.List.{List, [], ◌∷◌, ◌++◌}
-use mathlib.Core.Option.{Option, some, none}
 use mathlib.Core.Path.{◌≡◌, refl, sym, ◌∙◌, ap}
 use native.Mathlib.Omega.{arith}
 use lib.Dec.{leb, ltb, eqb}
@@ -13,7 +13,6 @@ use lib.Signed.{mag}
 use borrow.Author.Tests.{leb-true, leb-false, ltb-true, ltb-false, eqb-true, eqb-false, not-true}
 use mir.Syntax.{w64}
 use mir.Val.{of_z}
-use Rattle.fields.specs.declared.Number.TheVariants.{Is, Bad}
 use Rattle.fields.specs.Number.{is_digit, all_digits, value_after, is_decimal, decimal_of, plain, minus, written, up_to, within, unsigned_of, signed_of}
 use Rattle.fields.specs.Cut.{until, on_first, split}
 use Rattle.fields.proofs.Parts.{split_cons}
@@ -24,33 +23,33 @@ impossible e = absurd (omega arith)
 -- ---- what is read is what is written
 
 -- an unsigned number is the number written, and at most max
-pub unsigned_is : (max : ℕ) (s : List ℕ) (n : ℕ) → unsigned_of max s ≡ Is n → (written s ≡ some (pos n)) × (n ≤ max)
+pub unsigned_is : (max : ℕ) (s : List ℕ) (n : ℕ) → unsigned_of max s ≡ Some n → (written s ≡ Some (pos n)) × (n ≤ max)
 unfolding unsigned_of
 unsigned_is max s n e = by (written s) e
   where
-    by : (o : Option ℤ) → up_to max o ≡ Is n → (o ≡ some (pos n)) × (n ≤ max)
-    by none h = impossible (cc)
-    by (some (negsuc k)) h = impossible (cc)
-    by (some (pos k)) h = test (leb k max) refl h
+    by : (o : Option ℤ) → up_to max o ≡ Some n → (o ≡ Some (pos n)) × (n ≤ max)
+    by None h = impossible (cc)
+    by (Some (negsuc k)) h = impossible (cc)
+    by (Some (pos k)) h = test (leb k max) refl h
       where
-        test : (t : Bool) → leb k max ≡ t → cond t (Is k) Bad ≡ Is n → (some (pos k) ≡ some (pos n)) × (n ≤ max)
+        test : (t : Bool) → leb k max ≡ t → cond t (Some k) None ≡ Some n → (Some (pos k) ≡ Some (pos n)) × (n ≤ max)
         test false q h = impossible (cc)
-        test true q h = let same : k ≡ n = cc in let l = leb-true k max q in (ap (λ (j : ℕ). some (pos j)) same, omega arith)
+        test true q h = let same : k ≡ n = cc in let l = leb-true k max q in (ap (λ (j : ℕ). Some (pos j)) same, omega arith)
 
 -- a signed number is the number written, in 64 bits as the language writes an i64, and from -half to half - 1: `mag` of -(n + 1) is n
-pub signed_is : (half : ℕ) (s : List ℕ) (n : ℕ) → signed_of half s ≡ Is n → (z : ℤ) × ((written s ≡ some z) × (n ≡ of_z w64 z) × (mag z < half))
+pub signed_is : (half : ℕ) (s : List ℕ) (n : ℕ) → signed_of half s ≡ Some n → (z : ℤ) × ((written s ≡ Some z) × (n ≡ of_z w64 z) × (mag z < half))
 unfolding signed_of
 signed_is half s n e = by (written s) e
   where
-    test : (z : ℤ) (t : Bool) → ltb (mag z) half ≡ t → cond t (Is (of_z w64 z)) Bad ≡ Is n
-        → (y : ℤ) × ((some z ≡ some y) × (n ≡ of_z w64 y) × (mag y < half))
+    test : (z : ℤ) (t : Bool) → ltb (mag z) half ≡ t → cond t (Some (of_z w64 z)) None ≡ Some n
+        → (y : ℤ) × ((Some z ≡ Some y) × (n ≡ of_z w64 y) × (mag y < half))
     test z false q h = impossible (cc)
     test z true q h = let same : n ≡ of_z w64 z = cc in (z, (refl, same, ltb-true (mag z) half q))
 
-    by : (o : Option ℤ) → within half o ≡ Is n → (z : ℤ) × ((o ≡ some z) × (n ≡ of_z w64 z) × (mag z < half))
-    by none h = impossible (cc)
-    by (some (pos k)) h = test (pos k) (ltb k half) refl h
-    by (some (negsuc k)) h = test (negsuc k) (ltb k half) refl h
+    by : (o : Option ℤ) → within half o ≡ Some n → (z : ℤ) × ((o ≡ Some z) × (n ≡ of_z w64 z) × (mag z < half))
+    by None h = impossible (cc)
+    by (Some (pos k)) h = test (pos k) (ltb k half) refl h
+    by (Some (negsuc k)) h = test (negsuc k) (ltb k half) refl h
 
 -- ---- a number has one writing
 
@@ -122,56 +121,56 @@ decimal_once s t d f e = by (ltb (length s) (length t)) (ltb (length t) (length 
         let b = ltb-false (length t) (length s) k in
         (aligned 0 0 s t (decimal_digits s d) (decimal_digits t f) (omega arith) e).1
 
-decimal_is : (s : List ℕ) (n : ℕ) → decimal_of s ≡ some n → (is_decimal s ≡ true) × (value_after 0 s ≡ n)
+decimal_is : (s : List ℕ) (n : ℕ) → decimal_of s ≡ Some n → (is_decimal s ≡ true) × (value_after 0 s ≡ n)
 unfolding decimal_of
 decimal_is s n e = by (is_decimal s) refl e
   where
-    by : (t : Bool) → is_decimal s ≡ t → cond t (some (value_after 0 s)) none ≡ some n → (is_decimal s ≡ true) × (value_after 0 s ≡ n)
+    by : (t : Bool) → is_decimal s ≡ t → cond t (Some (value_after 0 s)) None ≡ Some n → (is_decimal s ≡ true) × (value_after 0 s ≡ n)
     by true q h = let same : value_after 0 s ≡ n = cc in (q, same)
     by false q h = impossible (cc)
 
 -- the bytes are the size of z, with a minus in front where z is below 0
 abbrev Writes : ℤ → List ℕ → Type 0
-Writes (pos n) s = decimal_of s ≡ some n
-Writes (negsuc n) s = (t : List ℕ) × ((s ≡ 45 ∷ t) × (decimal_of t ≡ some (suc n)))
+Writes (pos n) s = decimal_of s ≡ Some n
+Writes (negsuc n) s = (t : List ℕ) × ((s ≡ 45 ∷ t) × (decimal_of t ≡ Some (suc n)))
 
-written_is : (z : ℤ) (s : List ℕ) → written s ≡ some z → Writes z s
+written_is : (z : ℤ) (s : List ℕ) → written s ≡ Some z → Writes z s
 unfolding written
 written_is z [] e = impossible (cc)
 written_is z (b ∷ bs) e = by (eqb b 45) refl e
   where
-    with_minus : (z : ℤ) (o : Option ℕ) → decimal_of bs ≡ o → b ≡ 45 → minus o ≡ some z → Writes z (b ∷ bs)
-    with_minus z none q m h = impossible (cc)
-    with_minus z (some zero) q m h = impossible (cc)
-    with_minus (pos k) (some (suc n)) q m h = impossible (cc)
-    with_minus (negsuc k) (some (suc n)) q m h =
+    with_minus : (z : ℤ) (o : Option ℕ) → decimal_of bs ≡ o → b ≡ 45 → minus o ≡ Some z → Writes z (b ∷ bs)
+    with_minus z None q m h = impossible (cc)
+    with_minus z (Some zero) q m h = impossible (cc)
+    with_minus (pos k) (Some (suc n)) q m h = impossible (cc)
+    with_minus (negsuc k) (Some (suc n)) q m h =
         let same : n ≡ k = cc in
-        (bs, (ap (λ (x : ℕ). x ∷ bs) m, q ∙ ap (λ (x : ℕ). some (suc x)) same))
+        (bs, (ap (λ (x : ℕ). x ∷ bs) m, q ∙ ap (λ (x : ℕ). Some (suc x)) same))
 
-    without : (z : ℤ) (o : Option ℕ) → decimal_of (b ∷ bs) ≡ o → plain o ≡ some z → Writes z (b ∷ bs)
-    without z none q h = impossible (cc)
-    without (pos k) (some n) q h = let same : n ≡ k = cc in q ∙ ap (λ (x : ℕ). some x) same
-    without (negsuc k) (some n) q h = impossible (cc)
+    without : (z : ℤ) (o : Option ℕ) → decimal_of (b ∷ bs) ≡ o → plain o ≡ Some z → Writes z (b ∷ bs)
+    without z None q h = impossible (cc)
+    without (pos k) (Some n) q h = let same : n ≡ k = cc in q ∙ ap (λ (x : ℕ). Some x) same
+    without (negsuc k) (Some n) q h = impossible (cc)
 
-    by : (t : Bool) → eqb b 45 ≡ t → cond t (minus (decimal_of bs)) (plain (decimal_of (b ∷ bs))) ≡ some z → Writes z (b ∷ bs)
+    by : (t : Bool) → eqb b 45 ≡ t → cond t (minus (decimal_of bs)) (plain (decimal_of (b ∷ bs))) ≡ Some z → Writes z (b ∷ bs)
     by true q h = with_minus z (decimal_of bs) refl (eqb-true b 45 q) h
     by false q h = without z (decimal_of (b ∷ bs)) refl h
 
-size_once : (s t : List ℕ) (n : ℕ) → decimal_of s ≡ some n → decimal_of t ≡ some n → s ≡ t
+size_once : (s t : List ℕ) (n : ℕ) → decimal_of s ≡ Some n → decimal_of t ≡ Some n → s ≡ t
 size_once s t n e f =
     let a = decimal_is s n e in
     let b = decimal_is t n f in
     decimal_once s t a.0 b.0 (a.1 ∙ sym b.1)
 
 -- "decimal numbers without leading zeros; minus only before a nonzero number": two writings of one number are one
-pub written_once : (z : ℤ) (s t : List ℕ) → written s ≡ some z → written t ≡ some z → s ≡ t
+pub written_once : (z : ℤ) (s t : List ℕ) → written s ≡ Some z → written t ≡ Some z → s ≡ t
 written_once (pos n) s t e f = size_once s t n (written_is (pos n) s e) (written_is (pos n) t f)
 written_once (negsuc n) s t e f =
     let a = written_is (negsuc n) s e in
     let b = written_is (negsuc n) t f in
     a.1.0 ∙ ap (λ (q : List ℕ). 45 ∷ q) (size_once a.0 b.0 (suc n) a.1.1 b.1.1) ∙ sym b.1.0
 
-pub unsigned_once : (max n : ℕ) (s t : List ℕ) → unsigned_of max s ≡ Is n → unsigned_of max t ≡ Is n → s ≡ t
+pub unsigned_once : (max n : ℕ) (s t : List ℕ) → unsigned_of max s ≡ Some n → unsigned_of max t ≡ Some n → s ≡ t
 unsigned_once max n s t e f = written_once (pos n) s t (unsigned_is max s n e).0 (unsigned_is max t n f).0
 
 -- up to 2^63 the bits tell the number
@@ -182,12 +181,12 @@ bits_once half (negsuc m) (pos n) h p q e = absurd (omega arith)
 bits_once half (negsuc m) (negsuc n) h p q e = let same : m ≡ n = omega arith in ap negsuc same
 
 -- so up to 2^63 a signed number has one writing too
-pub signed_once : (half n : ℕ) (s t : List ℕ) → half ≤ 2 ^ 63 → signed_of half s ≡ Is n → signed_of half t ≡ Is n → s ≡ t
+pub signed_once : (half n : ℕ) (s t : List ℕ) → half ≤ 2 ^ 63 → signed_of half s ≡ Some n → signed_of half t ≡ Some n → s ≡ t
 signed_once half n s t h e f =
     let a = signed_is half s n e in
     let b = signed_is half t n f in
     let same = bits_once half a.0 b.0 h a.1.2 b.1.2 (sym a.1.1 ∙ b.1.1) in
-    written_once b.0 s t (a.1.0 ∙ ap some same) b.1.0
+    written_once b.0 s t (a.1.0 ∙ ap Some same) b.1.0
 
 -- ---- the parts are the whole text
 

@@ -9,6 +9,8 @@ use lib.Dec.{eqb}
 use lib.ListN.{length, get_or, take, drop, drop_of_length-le, length-drop}
 use lib.Seq.{drop-cons, drop-drop, take_all, take-nil}
 use borrow.Author.Tests.{eq-eqb, ne_eqb}
+use Rattle.std.specs.List.{count_by}
+use Rattle.std.proofs.lemmas.List.Recursion.{is_count_by}
 use Rattle.fields.specs.Cut.{until, end_from, on_first, split, nth}
 
 take_until : (b : ℕ) (xs : List ℕ) → take (length (until b xs)) xs ≡ until b xs
@@ -115,16 +117,6 @@ module _ (b i : ℕ) (s : List ℕ) (h : i < length s) where
   unfolding end_from until
   until_next e = rw (drop-cons s i 0 h, ne_eqb (get_or s i 0) b e, add-one) (omega arith)
 
-  pub count_here : get_or s i 0 ≡ b → length (split b (drop i s)) ≡ 1 + length (split b (drop (i + 1) s))
-  unfolding split
-  count_here e = rw (drop-cons s i 0 h, eq-eqb (get_or s i 0) b e, add-one) (omega arith)
-
-  pub count_next : (get_or s i 0 ≡ b → ⊥) → length (split b (drop i s)) ≡ length (split b (drop (i + 1) s))
-  unfolding split
-  count_next e =
-      rw (drop-cons s i 0 h, ne_eqb (get_or s i 0) b e, add-one)
-      (first_keeps (get_or s i 0) (split b (drop (suc i) s)) (some_parts b (drop (suc i) s)))
-
 -- two, three and four bytes on
 module _ (b i : ℕ) (s : List ℕ) (h : i + 1 < length s) (n : get_or s i 0 ≡ b → ⊥) (n₁ : get_or s (i + 1) 0 ≡ b → ⊥) where
   pub until_two : end_from b (i + 2) s ≡ end_from b i s
@@ -148,9 +140,15 @@ module _ (b i : ℕ) (s : List ℕ) (h : length s ≤ i) where
   unfolding end_from until
   until_end = rw (drop_of_length-le s h) (omega arith)
 
-  pub count_end : length (split b (drop i s)) ≡ 1
-  unfolding split
-  count_end = rw (drop_of_length-le s h)
+-- one part more than there are b's
+pub count_is : (b : ℕ) (s : List ℕ) → length (split b s) ≡ count_by (λ (x : ℕ). eqb x b) s + 1
+unfolding split
+count_is b s = omega (arith, is_count_by (λ (xs : List ℕ). length (split b xs) - 1) (λ (x : ℕ). eqb x b) refl (λ x xs. by (eqb x b) x xs) s, some_parts b s)
+  where
+    by : (t : Bool) (x : ℕ) (xs : List ℕ)
+        → length (cond t ([] ∷ split b xs) (on_first x (split b xs))) - 1 ≡ cond t (1 + (length (split b xs) - 1)) (length (split b xs) - 1)
+    by true x xs = omega (arith, some_parts b xs)
+    by false x xs = ap (λ (n : ℕ). n - 1) (first_keeps x (split b xs) (some_parts b xs))
 
 -- ---- the part at a place
 module _ (q : List ℕ) (ps : List (List ℕ)) where

@@ -6,172 +6,155 @@ ghost use Rattle.fields.specs.Number.{unsigned_of, signed_of};
 ghost use Rattle.fields.specs.Cut.{end_from, split, nth};
 ghost use Rattle.fields.specs.Taken.{unsigned_from, signed_from};
 
-#[derive(Clone, Copy)]
-pub enum Number {
-    Is(u64),
-    Bad,
-}
-
 // A number that is a whole part of a text, and where the next part starts.
 #[derive(Clone, Copy)]
-pub enum Taken {
-    Number(u64, u64),
-    Bad,
-}
-
-fn wide(byte: u8) -> u64
-    ensures { result ≡ byte }
-{
-    byte as u64
+pub struct Taken {
+    pub number: u64,
+    pub next: u64,
 }
 
 // The number from 0 to max that the bytes write, in one pass.
-pub fn unsigned(s: &[u8], max: u64) -> Number
+pub fn unsigned(s: &[u8], max: u64) -> Option<u64>
     ensures { result ≡ unsigned_of max s.now }
 {
-    let n = s.len();
-    if n == 0 {
-        return Number::Bad;
+    if s.is_empty() {
+        return None;
     }
-    if s[0] == 48 {
-        if 1 < n {
-            return Number::Bad;
+    if s[0] == b'0' {
+        if 1 < s.len() {
+            return None;
         }
     }
     // Above a tenth of max no digit can follow, so that x * 10 does not wrap, and no turn divides.
     let tenth = max / 10;
     let mut x: u64 = 0;
-    let mut i: usize = 0;
-    while i < n {
-        let b = s[i];
-        if b < 48 {
-            return Number::Bad;
+    for &b in s {
+        if b < b'0' {
+            return None;
         }
-        if 57 < b {
-            return Number::Bad;
+        if b'9' < b {
+            return None;
         }
         if tenth < x {
-            return Number::Bad;
+            return None;
         }
         let tens = x * 10;
-        let digit = wide(b) - 48;
+        let digit = u64::from(b - b'0');
         if max - tens < digit {
-            return Number::Bad;
+            return None;
         }
         x = tens + digit;
-        i += 1;
     }
-    Number::Is(x)
+    Some(x)
 }
 
 // The number from -half to half - 1 that the bytes write, as the 64 bits of its two's complement.
-pub fn signed(s: &[u8], half: u64) -> Number
+pub fn signed(s: &[u8], half: u64) -> Option<u64>
     ensures { result ≡ signed_of half s.now }
 {
-    if s.len() == 0 {
-        return Number::Bad;
+    if s.is_empty() {
+        return None;
     }
     if half == 0 {
-        return Number::Bad;
+        return None;
     }
-    if s[0] == 45 {
-        match unsigned(&s[1..], half) {
-            Number::Is(size) => {
-                if size == 0 {
-                    return Number::Bad;
-                }
-                Number::Is(18446744073709551615 - size + 1)
-            }
-            Number::Bad => Number::Bad,
-        }
-    } else {
-        unsigned(s, half - 1)
+    if s[0] != b'-' {
+        return unsigned(s, half - 1);
     }
+    let size = unsigned(&s[1..], half)?;
+    if size == 0 {
+        return None;
+    }
+    Some(size.wrapping_neg())
 }
 
 // The number from 0 to max in the part that starts at a place and ends before a byte, in one pass.
-pub fn unsigned_from(s: &[u8], start: u64, byte: u8, max: u64) -> Taken
+pub fn unsigned_from(s: &[u8], start: u64, byte: u8, max: u64) -> Option<Taken>
     ensures { result ≡ unsigned_from byte max start s.now }
 {
     let n = s.len();
     let first = start as usize;
     if n <= first {
-        return Taken::Bad;
+        return None;
     }
     if s[first] == byte {
-        return Taken::Bad;
+        return None;
     }
-    if s[first] == 48 {
+    if s[first] == b'0' {
         // No digit follows a first 0.
-        if n <= first + 1 {
-            return Taken::Number(0, start + 2);
+        if first + 1 < n {
+            if s[first + 1] != byte {
+                return None;
+            }
         }
-        if s[first + 1] == byte {
-            return Taken::Number(0, start + 2);
-        }
-        return Taken::Bad;
+        return Some(Taken {
+            number: 0,
+            next: start + 2,
+        });
     }
     let mut x: u64 = 0;
-    let mut i: usize = first;
-    while i < n {
+    for i in first..n {
         let b = s[i];
         if b == byte {
-            return Taken::Number(x, i as u64 + 1);
+            return Some(Taken {
+                number: x,
+                next: i as u64 + 1,
+            });
         }
-        if b < 48 {
-            return Taken::Bad;
+        if b < b'0' {
+            return None;
         }
-        if 57 < b {
-            return Taken::Bad;
+        if b'9' < b {
+            return None;
         }
         // Ten times as much would leave 64 bits.
         if 1844674407370955161 < x {
-            return Taken::Bad;
+            return None;
         }
         let tens = x * 10;
         if max < tens {
-            return Taken::Bad;
+            return None;
         }
-        let digit = wide(b) - 48;
+        let digit = u64::from(b - b'0');
         if max - tens < digit {
-            return Taken::Bad;
+            return None;
         }
         x = tens + digit;
-        i += 1;
     }
-    Taken::Number(x, i as u64 + 1)
+    Some(Taken {
+        number: x,
+        next: n as u64 + 1,
+    })
 }
 
 // The number from -half to half - 1 there, as the 64 bits of its two's complement.
-pub fn signed_from(s: &[u8], start: u64, byte: u8, half: u64) -> Taken
+pub fn signed_from(s: &[u8], start: u64, byte: u8, half: u64) -> Option<Taken>
     ensures { result ≡ signed_from byte half start s.now }
 {
     if s.len() as u64 <= start {
-        return Taken::Bad;
+        return None;
     }
     if half == 0 {
-        return Taken::Bad;
+        return None;
     }
     let first = s[start as usize];
     if first == byte {
-        return Taken::Bad;
+        return None;
     }
-    if first == 45 {
-        match unsigned_from(s, start + 1, byte, half) {
-            Taken::Number(size, next) => {
-                if size == 0 {
-                    return Taken::Bad;
-                }
-                Taken::Number(18446744073709551615 - size + 1, next)
-            }
-            Taken::Bad => Taken::Bad,
-        }
-    } else {
-        unsigned_from(s, start, byte, half - 1)
+    if first != b'-' {
+        return unsigned_from(s, start, byte, half - 1);
     }
+    let size = unsigned_from(s, start + 1, byte, half)?;
+    if size.number == 0 {
+        return None;
+    }
+    Some(Taken {
+        number: size.number.wrapping_neg(),
+        next: size.next,
+    })
 }
 
-// The first place from start on where the byte stands, or the length. Four bytes a turn.
+// The first place from start on where the byte stands, or the length. Four bytes a turn by an index, since a text's time goes here.
 pub fn find(s: &[u8], start: u64, byte: u8) -> u64
     ensures { result ≡ end_from byte start s.now }
 {
@@ -202,12 +185,10 @@ pub fn find(s: &[u8], start: u64, byte: u8) -> u64
 fn find_near(s: &[u8], start: u64, byte: u8) -> u64
     ensures { result ≡ end_from byte start s.now }
 {
-    let mut i = start as usize;
-    while i < s.len() {
+    for i in start as usize..s.len() {
         if s[i] == byte {
             return i as u64;
         }
-        i += 1;
     }
     s.len() as u64
 }
@@ -216,18 +197,8 @@ fn find_near(s: &[u8], start: u64, byte: u8) -> u64
 pub fn between(s: &[u8], start: u64, end: u64) -> &[u8]
     ensures { result.now ≡ take (end - start) (drop start s.now) }
 {
-    let n = s.len();
-    let a = start as usize;
-    let e = end as usize;
-    if n <= a {
-        return &s[..0];
-    }
-    if e <= a {
-        return &s[..0];
-    }
-    if n <= e {
-        return &s[a..n];
-    }
+    let e = s.len().min(end as usize);
+    let a = e.min(start as usize);
     &s[a..e]
 }
 
@@ -235,15 +206,7 @@ pub fn between(s: &[u8], start: u64, end: u64) -> &[u8]
 pub fn count(s: &[u8], byte: u8) -> u64
     ensures { result ≡ length (split byte s.now) }
 {
-    let mut n: u64 = 1;
-    let mut i: usize = 0;
-    while i < s.len() {
-        if s[i] == byte {
-            n += 1;
-        }
-        i += 1;
-    }
-    n
+    s.iter().filter(|x| **x == byte).count() as u64 + 1
 }
 
 // Part k, empty past the last. A loop over all parts goes by `find` and `between` instead, in one pass.
@@ -251,15 +214,12 @@ pub fn part(s: &[u8], byte: u8, k: u64) -> &[u8]
     ensures { result.now ≡ nth k (split byte s.now) }
 {
     let mut p: u64 = 0;
-    let mut left = k;
-    while 0 < left {
-        let e = find(s, p, byte);
-        if e < s.len() as u64 {
-            p = e + 1;
-        } else {
+    for i in 0..k {
+        let end = find(s, p, byte);
+        if end == s.len() as u64 {
             return &s[..0];
         }
-        left -= 1;
+        p = end + 1;
     }
     let end = find(s, p, byte);
     between(s, p, end)

@@ -1,4 +1,5 @@
 pub mod Field
 pub mod Line
 pub mod Into
+pub mod Place
 pub mod Answer

@@ -1,9 +1,6 @@
 -- What a line of each kind says, field by field: the paper's "House text".
-use Rattle.std.specs.Prelude.{ℕ, ◌+◌, Bool, cond, List, [], ◌∷◌, eqb, ltb, length}
-use Rattle.std.proofs.Math.Option.{Option, some, none}
+use Rattle.std.specs.Prelude.{ℕ, ◌+◌, Bool, cond, List, [], ◌∷◌, eqb, ltb, length, Option, Some, None}
 use Rattle.fields.specs.Cut.{split, nth}
-use Rattle.fields.specs.declared.Number.{Number}
-use Rattle.fields.specs.declared.Number.TheVariants.{Is, Bad}
 use Rattle.names.specs.Names.{bytes, equal, number_of, integer_form, bool_form, integers_form, bools_form, permutation_form, divisor_form, sizes_form, endpoints_form, other_form}
 use Rattle.lines.specs.Field.{Read, says, bad, number, list, one_of, id32, unsigned64, integer32, integer64, only, list_of, Maybe, here, absent, wrong, or_absent}
 
@@ -28,7 +25,7 @@ pub record TypeRow : Type 0 where
   pub sparse : ℕ
   pub dims : List ℕ
 
-abbrev pub dim_of : ℕ → List ℕ → Number
+abbrev pub dim_of : ℕ → List ℕ → Option ℕ
 dim_of form s = cond (ltb form 4) (integer64 s) (integer32 s)
 
 unfoldable pub type_line : List (List ℕ) → Read TypeRow
@@ -90,12 +87,12 @@ abbrev pub held : List ℕ → Numbers
 held xs = record { held = xs; missing = 0 }
 
 abbrev pub whole : Option (List ℕ) → Option Numbers
-whole none = none
-whole (some xs) = some (held xs)
+whole None = None
+whole (Some xs) = Some (held xs)
 
-abbrev pub single : Number → Option Numbers
-single Bad = none
-single (Is n) = some (held (n ∷ []))
+abbrev pub single : Option ℕ → Option Numbers
+single None = None
+single (Some n) = Some (held (n ∷ []))
 
 abbrev pub value_in : Maybe → ℕ
 value_in (here n) = n
@@ -112,29 +109,29 @@ is_wrong (here n) = Bool.false
 is_wrong absent = Bool.false
 is_wrong wrong = Bool.true
 
-abbrev pub divisor_numbers : Number → Maybe → Maybe → Option Numbers
-divisor_numbers Bad every along = none
-divisor_numbers (Is d) every along =
-    cond (is_wrong every) none
-    (cond (is_wrong along) none
-    (some (record { held = d ∷ value_in every ∷ value_in along ∷ []; missing = missing_bit 2 every + missing_bit 4 along })))
+abbrev pub divisor_numbers : Option ℕ → Maybe → Maybe → Option Numbers
+divisor_numbers None every along = None
+divisor_numbers (Some d) every along =
+    cond (is_wrong every) None
+    (cond (is_wrong along) None
+    (Some (record { held = d ∷ value_in every ∷ value_in along ∷ []; missing = missing_bit 2 every + missing_bit 4 along })))
 
 abbrev pub endpoint_numbers : Maybe → Maybe → Option Numbers
 endpoint_numbers low high =
-    cond (is_wrong low) none
-    (cond (is_wrong high) none
-    (some (record { held = value_in low ∷ value_in high ∷ []; missing = missing_bit 1 low + missing_bit 2 high })))
+    cond (is_wrong low) None
+    (cond (is_wrong high) None
+    (Some (record { held = value_in low ∷ value_in high ∷ []; missing = missing_bit 1 low + missing_bit 2 high })))
 
 abbrev pub three : List (List ℕ) → Option Numbers
 three ss =
-    cond (eqb (length ss) 3) (divisor_numbers (unsigned64 (nth 0 ss)) (or_absent integer64 (nth 1 ss)) (or_absent integer64 (nth 2 ss))) none
+    cond (eqb (length ss) 3) (divisor_numbers (unsigned64 (nth 0 ss)) (or_absent integer64 (nth 1 ss)) (or_absent integer64 (nth 2 ss))) None
 
 abbrev pub two : List (List ℕ) → Option Numbers
-two ss = cond (eqb (length ss) 2) (endpoint_numbers (or_absent integer64 (nth 0 ss)) (or_absent integer64 (nth 1 ss))) none
+two ss = cond (eqb (length ss) 2) (endpoint_numbers (or_absent integer64 (nth 0 ss)) (or_absent integer64 (nth 1 ss))) None
 
 abbrev pub nothing : List ℕ → Option Numbers
-nothing [] = some (held [])
-nothing (b ∷ bs) = none
+nothing [] = Some (held [])
+nothing (b ∷ bs) = None
 
 -- the list of a form
 unfoldable pub numbers_of : ℕ → List ℕ → Option Numbers
@@ -163,8 +160,8 @@ form_of s =
     (cond (equal s (bytes "x")) other_form 9))))))))
 
 abbrev pub with_numbers : ℕ → ℕ → Option Numbers → Read AttributeRow
-with_numbers name form none = bad 4
-with_numbers name form (some n) = says (record { name = name; form = form; numbers = n.held; missing = n.missing })
+with_numbers name form None = bad 4
+with_numbers name form (Some n) = says (record { name = name; form = form; numbers = n.held; missing = n.missing })
 
 -- "Names are nonempty bytes"
 abbrev pub named : List ℕ → Read AttributeRow → Read AttributeRow

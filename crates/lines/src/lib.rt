@@ -1,15 +1,18 @@
 // One line of each kind of the house text, judged by its leftmost bad field. Lists go straight into the lent list entries.
 #![tactic(auto)]
 
-ghost use Rattle.std.specs.Prelude.{◌≡◌, ◌+◌, ◌-◌, take, drop};
-ghost use Rattle.fields.specs.Cut.{end_from, split};
+ghost use Rattle.std.specs.Prelude.{◌≡◌, ◌+◌, ◌-◌, ◌<◌, take, drop, OnOk};
+ghost use Rattle.std.specs.Option.{ok_or};
+ghost use Rattle.std.proofs.lemmas.List.Edits.{sets};
+ghost use Rattle.fields.specs.Cut.{end_from, split, nth};
 ghost use Rattle.fields.specs.Taken.{part_from, taken};
-ghost use Rattle.lines.specs.Field.{bad, id32, integer64, or_absent};
-ghost use Rattle.lines.specs.Line.{header_line, type_line, value_line, single, three, two, form_of, function_line};
-ghost use Rattle.lines.specs.Into.{number_in, left, list_into};
-ghost use Rattle.lines.specs.Answer.{header_of, type_of, dim_width, value_of, function_of, pair_into, operation_into, slot_of, held_into, whole_into, numbers_into, attribute_into, block_into, region_into};
+ghost use Rattle.lines.specs.Field.{integer64, list_of, or_absent};
+ghost use Rattle.lines.specs.Line.{header_line, type_line, value_line, single, three, two, function_line};
+ghost use Rattle.lines.specs.Into.{number_in, left, good_of, count_of, list_into};
+ghost use Rattle.lines.specs.Place.{field_start};
+ghost use Rattle.lines.specs.Answer.{bad_field, header_of, type_of, dim_width, value_of, function_of, operation_into, form_in, slot_of, held_into, whole_into, numbers_into, attribute_into, block_into, region_into};
 
-use fields::{Number, Taken};
+use fields::Taken;
 
 // The greatest id and the greatest number, and half of the numbers of 32 and of 64 bits.
 const MAX_ID: u64 = 4294967295;
@@ -27,22 +30,21 @@ pub enum Width {
     Signed(u64),
 }
 
+// The leftmost bad field of a line, counted from 1.
 #[derive(Clone, Copy)]
-pub enum Listed {
-    Count(u64),
-    Bad,
+pub struct BadField {
+    pub field: u64,
 }
 
 #[derive(Clone, Copy)]
-pub enum HeaderLine {
-    Row { version: u64, sm: u64 },
-    Bad(u64),
+pub struct HeaderLine {
+    pub version: u64,
+    pub sm: u64,
 }
 
-// The fault is the bad field, or 0 where there is none. Dims past the eighth count in the rank and are not kept.
+// Dims past the eighth count in the rank and are not kept.
 #[derive(Clone, Copy)]
 pub struct TypeLine {
-    pub fault: u64,
     pub form: u64,
     pub kind: u64,
     pub pointer: u64,
@@ -52,83 +54,57 @@ pub struct TypeLine {
     pub dims: [u64; 8],
 }
 
-// Of a value that claims no result, the last three are 0.
+// The operation and the result that a value claims, if it claims one.
 #[derive(Clone, Copy)]
-pub enum ValueLine {
-    Row {
-        type_id: u64,
-        claims: u64,
-        operation: u64,
-        index: u64,
-    },
-    Bad(u64),
+pub struct Claim {
+    pub operation: u64,
+    pub index: u64,
+}
+
+#[derive(Clone, Copy)]
+pub struct ValueLine {
+    pub type_id: u64,
+    pub claim: Option<Claim>,
 }
 
 // Of each list its length; the numbers themselves stand in the entries.
 #[derive(Clone, Copy)]
-pub enum OperationLine {
-    Row {
-        opcode: u64,
-        results: u64,
-        operands: u64,
-        regions: u64,
-    },
-    Bad(u64),
+pub struct OperationLine {
+    pub opcode: u64,
+    pub results: u64,
+    pub operands: u64,
+    pub regions: u64,
 }
 
 #[derive(Clone, Copy)]
-pub enum AttributeLine {
-    Row {
-        name: u64,
-        form: u64,
-        count: u64,
-        missing: u64,
-    },
-    Bad(u64),
+pub struct AttributeLine {
+    pub name: u64,
+    pub form: u64,
+    pub count: u64,
+    pub missing: u64,
 }
 
 #[derive(Clone, Copy)]
-pub enum BlockLine {
-    Row { arguments: u64, operations: u64 },
-    Bad(u64),
-}
-
-#[derive(Clone, Copy)]
-pub enum RegionLine {
-    Row(u64),
-    Bad(u64),
-}
-
-#[derive(Clone, Copy)]
-pub enum FunctionLine {
-    Row(u64),
-    Bad(u64),
-}
-
-// Two lists of ids, or which of them is bad.
-#[derive(Clone, Copy)]
-pub enum Pair {
-    Counts(u64, u64),
-    BadFirst,
-    BadSecond,
+pub struct BlockLine {
+    pub arguments: u64,
+    pub operations: u64,
 }
 
 // The numbers of an attribute: how many, and which of them are absent, bit k for number k.
 #[derive(Clone, Copy)]
-pub enum Filled {
-    Held { count: u64, missing: u64 },
-    Bad,
+pub struct Filled {
+    pub count: u64,
+    pub missing: u64,
 }
 
-// A number that may be absent.
+// A number that may be absent: 0 and its bit where it is.
 #[derive(Clone, Copy)]
 pub struct Slot {
-    pub wrong: bool,
     pub value: u64,
     pub missing: u64,
 }
 
-pub fn number_in(field: &[u8], width: Width) -> Number
+pub fn number_in(field: &[u8], width: Width) -> Option<u64>
     ensures { result ≡ number_in width field.now }
 {
     match width {
@@ -138,7 +114,7 @@ pub fn number_in(field: &[u8], width: Width) -> Number
 }
 
 // The number in the part that starts at a place and ends before a byte.
-fn number_from(s: &[u8], place: u64, byte: u8, width: Width) -> Taken
+fn number_from(s: &[u8], place: u64, byte: u8, width: Width) -> Option<Taken>
     ensures { result ≡ taken (number_in width (part_from byte place s.now)) (end_from byte place s.now + 1) }
 {
     match width {
@@ -147,79 +123,118 @@ fn number_from(s: &[u8], place: u64, byte: u8, width: Width) -> Taken
     }
 }
 
+// A row written from a place on, as far as the cells go.
+pub fn put_row<T: Copy>(cells: &mut [T], at: u64, row: &[T])
+    ensures { cells.new ≡ sets cells.old at row.now }
+{
+    let n = cells.len() as u64;
+    for (i, &x) in row.iter().enumerate() {
+        let place = at.saturating_add(i as u64);
+        if place < n {
+            cells[place as usize] = x;
+        }
+    }
+}
+
 // The numbers of a list, written from a place on as far as the entries go, in one pass; and their count.
-pub fn list_into(field: &[u8], width: Width, at: u64, l: &mut [u64]) -> Listed
+pub fn list_into(field: &[u8], width: Width, at: u64, l: &mut [u64]) -> Option<u64>
     ensures { left result l.new ≡ list_into (number_in width) at field.now l.old }
 {
-    if field.len() == 0 {
-        return Listed::Count(0);
+    if field.is_empty() {
+        return Some(0);
     }
     // Past the end of the entries any place is as good as the end, and no sum wraps.
-    let start = cells::least(at, l.len() as u64);
+    let start = at.min(l.len() as u64);
     let mut n: u64 = 0;
     let mut p: u64 = 0;
-    loop {
-        let a = number_from(field, p, 44, width);
-        let Taken::Number(x, next) = a else {
-            return Listed::Bad;
-        };
-        cells::put(l, start + n, x);
+    while p <= field.len() as u64 {
+        let item = number_from(field, p, b',', width)?;
+        cells::put(l, start + n, item.number);
         n += 1;
-        if (field.len() as u64) < next {
-            return Listed::Count(n);
+        p = item.next;
+    }
+    Some(n)
+}
+
+// A line, read field by field from left to right: how many fields were read, and where the next one starts.
+#[derive(Clone, Copy)]
+struct Cursor<'a> {
+    line: &'a [u8],
+    read: u64,
+    place: u64,
+    ghost stands: { place ≡ field_start read line.now },
+}
+
+impl<'a> Cursor<'a> {
+    // Past the tag, which is field 1.
+    fn new(line: &'a [u8]) -> Cursor<'a>
+        ensures line { result.line ≡ line.entry }
+        ensures read { result.read ≡ 1 }
+    {
+        Cursor {
+            line,
+            read: 1,
+            place: fields::find(line, 0, b'\t') + 1,
         }
-        p = next;
+    }
+
+    // The next field.
+    fn field(&mut self) -> &'a [u8]
+        requires { self.old.read < 7 }
+        ensures field { result.now ≡ nth self.old.read (split 9 self.old.line.now) }
+        ensures line { self.new.line ≡ self.old.line }
+        ensures read { self.new.read ≡ self.old.read + 1 }
+    {
+        let end = fields::find(self.line, self.place, b'\t');
+        let field = fields::between(self.line, self.place, end);
+        *self = Cursor {
+            line: self.line,
+            read: self.read + 1,
+            place: end + 1,
+        };
+        field
+    }
+
+    // The number that the next field holds.
+    fn number(&mut self, width: Width) -> Result<u64, BadField>
+        requires { self.old.read < 7 }
+        ensures number { result ≡ ok_or (number_in width (nth self.old.read (split 9 self.old.line.now))) (bad_field (self.old.read + 1)) }
+        ensures line { self.new.line ≡ self.old.line }
+        ensures read { OnOk result (self.new.read ≡ self.old.read + 1) }
+    {
+        let field = self.read + 1;
+        let taken = number_from(self.line, self.place, b'\t', width).ok_or(BadField { field })?;
+        *self = Cursor {
+            line: self.line,
+            read: field,
+            place: taken.next,
+        };
+        Ok(taken.number)
+    }
+
+    // The list that the next field holds, written from a place of the entries on; and its length.
+    fn list(&mut self, width: Width, at: u64, l: &mut [u64]) -> Result<u64, BadField>
+        requires { self.old.read < 7 }
+        ensures list { result ≡ ok_or (count_of (list_of (number_in width) (nth self.old.read (split 9 self.old.line.now)))) (bad_field (self.old.read + 1)) }
+        ensures written { l.new ≡ sets l.old at (good_of (number_in width) (nth self.old.read (split 9 self.old.line.now))) }
+        ensures line { self.new.line ≡ self.old.line }
+        ensures read { self.new.read ≡ self.old.read + 1 }
+    {
+        let list = self.field();
+        list_into(list, width, at, l).ok_or(BadField { field: self.read })
     }
 }
 
-// Where the field after the one at a place starts.
-fn after(line: &[u8], place: u64) -> u64
-    ensures { result ≡ end_from 9 place line.now + 1 }
-{
-    fields::find(line, place, 9) + 1
-}
-
-// The field from a place up to the tab before the next.
-fn field(line: &[u8], place: u64, next: u64) -> &[u8]
-    ensures { result.now ≡ take (next - 1 - place) (drop place line.now) }
-{
-    fields::between(line, place, cells::rest(next, 1))
-}
-
-pub fn header_line(line: &[u8]) -> HeaderLine
+pub fn header_line(line: &[u8]) -> Result<HeaderLine, BadField>
     ensures { result ≡ header_of (header_line (split 9 line.now)) }
 {
-    let a = number_from(line, after(line, 0), 9, Width::Signed(HALF_64));
-    let Taken::Number(one, second) = a else {
-        return HeaderLine::Bad(2);
-    };
-    if one != 1 {
-        return HeaderLine::Bad(2);
+    let mut rest = Cursor::new(line);
+    if rest.number(Width::Signed(HALF_64))? != 1 {
+        return Err(BadField { field: 2 });
     }
-    let b = number_from(line, second, 9, Width::Signed(HALF_64));
-    let Taken::Number(version, third) = b else {
-        return HeaderLine::Bad(3);
-    };
-    let d = number_from(line, third, 9, Width::Signed(HALF_64));
-    let Taken::Number(sm, _) = d else {
-        return HeaderLine::Bad(4);
-    };
-    HeaderLine::Row { version, sm }
-}
-
-fn bad_type(field: u64) -> TypeLine
-    ensures { result ≡ type_of (bad field) }
-{
-    TypeLine {
-        fault: field,
-        form: 0,
-        kind: 0,
-        pointer: 0,
-        padded: 0,
-        sparse: 0,
-        rank: 0,
-        dims: [0u64; 8],
-    }
+    let version = rest.number(Width::Signed(HALF_64))?;
+    let sm = rest.number(Width::Signed(HALF_64))?;
+    Ok(HeaderLine { version, sm })
 }
 
 fn dim_width(form: u64) -> Width
@@ -231,38 +246,18 @@ fn dim_width(form: u64) -> Width
     Width::Signed(HALF_32)
 }
 
-pub fn type_line(line: &[u8]) -> TypeLine
+pub fn type_line(line: &[u8]) -> Result<TypeLine, BadField>
     ensures { result ≡ type_of (type_line (split 9 line.now)) }
 {
-    let a = number_from(line, after(line, 0), 9, Width::Unsigned(6));
-    let Taken::Number(form, second) = a else {
-        return bad_type(2);
-    };
-    let b = number_from(line, second, 9, Width::Unsigned(15));
-    let Taken::Number(kind, third) = b else {
-        return bad_type(3);
-    };
-    let d = number_from(line, third, 9, Width::Unsigned(MAX_ID));
-    let Taken::Number(pointer, fourth) = d else {
-        return bad_type(4);
-    };
-    let e = number_from(line, fourth, 9, Width::Unsigned(1));
-    let Taken::Number(padded, fifth) = e else {
-        return bad_type(5);
-    };
-    let f = number_from(line, fifth, 9, Width::Signed(HALF_32));
-    let Taken::Number(sparse, sixth) = f else {
-        return bad_type(6);
-    };
+    let mut rest = Cursor::new(line);
+    let form = rest.number(Width::Unsigned(6))?;
+    let kind = rest.number(Width::Unsigned(15))?;
+    let pointer = rest.number(Width::Unsigned(MAX_ID))?;
+    let padded = rest.number(Width::Unsigned(1))?;
+    let sparse = rest.number(Width::Signed(HALF_32))?;
     let mut dims = [0u64; 8];
-    let width = dim_width(form);
-    let last = field(line, sixth, after(line, sixth));
-    let g = list_into(last, width, 0, &mut dims);
-    let Listed::Count(rank) = g else {
-        return bad_type(7);
-    };
-    TypeLine {
-        fault: 0,
+    let rank = rest.list(dim_width(form), 0, &mut dims)?;
+    Ok(TypeLine {
         form,
         kind,
         pointer,
@@ -270,115 +265,66 @@ pub fn type_line(line: &[u8]) -> TypeLine
         sparse,
         rank,
         dims,
-    }
+    })
 }
 
-pub fn value_line(line: &[u8]) -> ValueLine
+pub fn value_line(line: &[u8]) -> Result<ValueLine, BadField>
     ensures { result ≡ value_of (value_line (split 9 line.now)) }
 {
-    let a = number_from(line, after(line, 0), 9, Width::Unsigned(MAX_ID));
-    let Taken::Number(type_id, second) = a else {
-        return ValueLine::Bad(2);
-    };
-    let third = after(line, second);
-    let owner = field(line, second, third);
-    let result = field(line, third, after(line, third));
-    if owner.len() == 0 {
-        if result.len() == 0 {
-            return ValueLine::Row {
+    let mut rest = Cursor::new(line);
+    let type_id = rest.number(Width::Unsigned(MAX_ID))?;
+    let owner = rest.field();
+    let result_of = rest.field();
+    if owner.is_empty() {
+        if result_of.is_empty() {
+            return Ok(ValueLine {
                 type_id,
-                claims: 0,
-                operation: 0,
-                index: 0,
-            };
+                claim: None,
+            });
         }
-        return ValueLine::Bad(3);
+        return Err(BadField { field: 3 });
     }
-    let b = number_in(owner, Width::Unsigned(MAX_ID));
-    let Number::Is(operation) = b else {
-        return ValueLine::Bad(3);
-    };
-    let d = number_in(result, Width::Signed(HALF_64));
-    let Number::Is(index) = d else {
-        return ValueLine::Bad(4);
-    };
-    ValueLine::Row {
+    let operation = number_in(owner, Width::Unsigned(MAX_ID)).ok_or(BadField { field: 3 })?;
+    let index = number_in(result_of, Width::Signed(HALF_64)).ok_or(BadField { field: 4 })?;
+    Ok(ValueLine {
         type_id,
-        claims: 1,
-        operation,
-        index,
-    }
+        claim: Some(Claim { operation, index }),
+    })
 }
 
-pub fn function_line(line: &[u8]) -> FunctionLine
+// The operation of a function.
+pub fn function_line(line: &[u8]) -> Result<u64, BadField>
     ensures { result ≡ function_of (function_line (split 9 line.now)) }
 {
-    let a = number_from(line, after(line, 0), 9, Width::Unsigned(MAX_ID));
-    let Taken::Number(operation, _) = a else {
-        return FunctionLine::Bad(2);
-    };
-    FunctionLine::Row(operation)
+    Cursor::new(line).number(Width::Unsigned(MAX_ID))
 }
 
-// Two lists of ids, one after the other in the entries.
-fn two_lists(first: &[u8], second: &[u8], at: u64, l: &mut [u64]) -> Pair
-    ensures { left result l.new ≡ pair_into id32 at first.now second.now l.old }
-{
-    let start = cells::least(at, l.len() as u64);
-    let a = list_into(first, Width::Unsigned(MAX_ID), start, l);
-    let Listed::Count(n) = a else {
-        return Pair::BadFirst;
-    };
-    let b = list_into(second, Width::Unsigned(MAX_ID), start + n, l);
-    let Listed::Count(m) = b else {
-        return Pair::BadSecond;
-    };
-    Pair::Counts(n, m)
-}
-
-pub fn operation_line(line: &[u8], at: u64, l: &mut [u64]) -> OperationLine
+pub fn operation_line(line: &[u8], at: u64, l: &mut [u64]) -> Result<OperationLine, BadField>
     ensures { left result l.new ≡ operation_into at (split 9 line.now) l.old }
 {
-    let a = number_from(line, after(line, 0), 9, Width::Unsigned(104));
-    let Taken::Number(opcode, second) = a else {
-        return OperationLine::Bad(2);
-    };
-    let third = after(line, second);
-    let start = cells::least(at, l.len() as u64);
-    let b = list_into(
-        field(line, second, third),
-        Width::Unsigned(MAX_ID),
-        start,
-        l,
-    );
-    let Listed::Count(results) = b else {
-        return OperationLine::Bad(3);
-    };
-    let fourth = after(line, third);
-    let operands = field(line, third, fourth);
-    let regions = field(line, fourth, after(line, fourth));
-    let d = two_lists(operands, regions, start + results, l);
-    match d {
-        Pair::BadFirst => OperationLine::Bad(4),
-        Pair::BadSecond => OperationLine::Bad(5),
-        Pair::Counts(operands, regions) => OperationLine::Row {
-            opcode,
-            results,
-            operands,
-            regions,
-        },
-    }
+    let mut rest = Cursor::new(line);
+    let opcode = rest.number(Width::Unsigned(104))?;
+    let results = rest.list(Width::Unsigned(MAX_ID), at, l)?;
+    let second = at.saturating_add(results);
+    let operands = rest.list(Width::Unsigned(MAX_ID), second, l)?;
+    let third = second.saturating_add(operands);
+    let regions = rest.list(Width::Unsigned(MAX_ID), third, l)?;
+    Ok(OperationLine {
+        opcode,
+        results,
+        operands,
+        regions,
+    })
 }
 
-// The form of a letter, 9 for any other field.
-fn form_of(letter: &[u8]) -> u64
-    ensures { result ≡ form_of letter.now }
+// The form of a letter, if it names one.
+fn form_of(letter: &[u8]) -> Option<u64>
+    ensures { result ≡ form_in letter.now }
 {
     if letter.len() != 1 {
-        return 9;
+        return None;
     }
-    let byte = letter[0];
-    match byte {
+    let form = match letter[0] {
         b'i' => names::INTEGER,
         b'b' => names::BOOL,
         b'a' => names::INTEGERS,
@@ -388,114 +334,77 @@ fn form_of(letter: &[u8]) -> u64
         b's' => names::SIZES,
         b'r' => names::ENDPOINTS,
         b'x' => names::OTHER,
-        _ => 9,
-    }
+        _ => return None,
+    };
+    Some(form)
 }
 
-fn slot_of(item: &[u8], bit: u64) -> Slot
+fn slot_of(item: &[u8], bit: u64) -> Option<Slot>
     ensures { result ≡ slot_of bit (or_absent integer64 item.now) }
 {
-    if item.len() == 0 {
-        return Slot {
-            wrong: false,
+    if item.is_empty() {
+        return Some(Slot {
             value: 0,
             missing: bit,
-        };
+        });
     }
-    let a = number_in(item, Width::Signed(HALF_64));
-    let Number::Is(value) = a else {
-        return Slot {
-            wrong: true,
-            value: 0,
-            missing: 0,
-        };
-    };
-    Slot {
-        wrong: false,
-        value,
-        missing: 0,
-    }
+    let value = number_in(item, Width::Signed(HALF_64))?;
+    Some(Slot { value, missing: 0 })
 }
 
-fn single_into(field: &[u8], width: Width, at: u64, l: &mut [u64]) -> Filled
+fn single_into(field: &[u8], width: Width, at: u64, l: &mut [u64]) -> Option<Filled>
     ensures { left result l.new ≡ held_into at (single (number_in width field.now)) l.old }
 {
-    let a = number_in(field, width);
-    let Number::Is(n) = a else {
-        return Filled::Bad;
-    };
+    let n = number_in(field, width)?;
     cells::put(l, at, n);
-    Filled::Held {
+    Some(Filled {
         count: 1,
         missing: 0,
-    }
+    })
 }
 
-fn whole_into(field: &[u8], width: Width, at: u64, l: &mut [u64]) -> Filled
+fn whole_into(field: &[u8], width: Width, at: u64, l: &mut [u64]) -> Option<Filled>
     ensures { left result l.new ≡ whole_into (number_in width) at field.now l.old }
 {
-    let a = list_into(field, width, at, l);
-    let Listed::Count(count) = a else {
-        return Filled::Bad;
-    };
-    Filled::Held { count, missing: 0 }
+    let count = list_into(field, width, at, l)?;
+    Some(Filled { count, missing: 0 })
 }
 
 // A divisor, and two numbers that may be absent.
-fn divisor_into(field: &[u8], at: u64, l: &mut [u64]) -> Filled
+fn divisor_into(field: &[u8], at: u64, l: &mut [u64]) -> Option<Filled>
     ensures { left result l.new ≡ held_into at (three (split 44 field.now)) l.old }
 {
-    if fields::count(field, 44) != 3 {
-        return Filled::Bad;
+    if fields::count(field, b',') != 3 {
+        return None;
     }
-    let a = number_in(fields::part(field, 44, 0), Width::Unsigned(MAX_64));
-    let Number::Is(divisor) = a else {
-        return Filled::Bad;
-    };
-    let every = slot_of(fields::part(field, 44, 1), 2);
-    if every.wrong {
-        return Filled::Bad;
-    }
-    let along = slot_of(fields::part(field, 44, 2), 4);
-    if along.wrong {
-        return Filled::Bad;
-    }
-    let start = cells::least(at, l.len() as u64);
-    cells::put(l, start, divisor);
-    cells::put(l, start + 1, every.value);
-    cells::put(l, start + 2, along.value);
-    Filled::Held {
+    let divisor = number_in(fields::part(field, b',', 0), Width::Unsigned(MAX_64))?;
+    let every = slot_of(fields::part(field, b',', 1), 2)?;
+    let along = slot_of(fields::part(field, b',', 2), 4)?;
+    put_row(l, at, &[divisor, every.value, along.value]);
+    Some(Filled {
         count: 3,
         missing: every.missing + along.missing,
-    }
+    })
 }
 
 // Two numbers that may be absent.
-fn endpoints_into(field: &[u8], at: u64, l: &mut [u64]) -> Filled
+fn endpoints_into(field: &[u8], at: u64, l: &mut [u64]) -> Option<Filled>
     ensures { left result l.new ≡ held_into at (two (split 44 field.now)) l.old }
 {
-    if fields::count(field, 44) != 2 {
-        return Filled::Bad;
+    if fields::count(field, b',') != 2 {
+        return None;
     }
-    let low = slot_of(fields::part(field, 44, 0), 1);
-    if low.wrong {
-        return Filled::Bad;
-    }
-    let high = slot_of(fields::part(field, 44, 1), 2);
-    if high.wrong {
-        return Filled::Bad;
-    }
-    let start = cells::least(at, l.len() as u64);
-    cells::put(l, start, low.value);
-    cells::put(l, start + 1, high.value);
-    Filled::Held {
+    let low = slot_of(fields::part(field, b',', 0), 1)?;
+    let high = slot_of(fields::part(field, b',', 1), 2)?;
+    put_row(l, at, &[low.value, high.value]);
+    Some(Filled {
         count: 2,
         missing: low.missing + high.missing,
-    }
+    })
 }
 
 // The list of a form.
-fn numbers_into(field: &[u8], form: u64, at: u64, l: &mut [u64]) -> Filled
+fn numbers_into(field: &[u8], form: u64, at: u64, l: &mut [u64]) -> Option<Filled>
     ensures { left result l.new ≡ numbers_into form at field.now l.old }
 {
     match form {
@@ -508,70 +417,51 @@ fn numbers_into(field: &[u8], form: u64, at: u64, l: &mut [u64]) -> Filled
         names::SIZES => whole_into(field, Width::Signed(HALF_64), at, l),
         names::ENDPOINTS => endpoints_into(field, at, l),
         _ => {
-            if field.len() == 0 {
-                return Filled::Held {
-                    count: 0,
-                    missing: 0,
-                };
+            if !field.is_empty() {
+                return None;
             }
-            Filled::Bad
+            Some(Filled {
+                count: 0,
+                missing: 0,
+            })
         }
     }
 }
 
-pub fn attribute_line(line: &[u8], at: u64, l: &mut [u64]) -> AttributeLine
+pub fn attribute_line(line: &[u8], at: u64, l: &mut [u64]) -> Result<AttributeLine, BadField>
     ensures { left result l.new ≡ attribute_into at (split 9 line.now) l.old }
 {
-    let first = after(line, 0);
-    let second = after(line, first);
-    let name = field(line, first, second);
-    if name.len() == 0 {
-        return AttributeLine::Bad(2);
+    let mut rest = Cursor::new(line);
+    let name = rest.field();
+    if name.is_empty() {
+        return Err(BadField { field: 2 });
     }
-    let third = after(line, second);
-    let form = form_of(field(line, second, third));
-    if 9 <= form {
-        return AttributeLine::Bad(3);
-    }
-    let last = field(line, third, after(line, third));
-    let a = numbers_into(last, form, at, l);
-    let Filled::Held { count, missing } = a else {
-        return AttributeLine::Bad(4);
-    };
-    AttributeLine::Row {
+    let form = form_of(rest.field()).ok_or(BadField { field: 3 })?;
+    let numbers = numbers_into(rest.field(), form, at, l).ok_or(BadField { field: 4 })?;
+    Ok(AttributeLine {
         name: names::name_number(name),
         form,
-        count,
-        missing,
-    }
+        count: numbers.count,
+        missing: numbers.missing,
+    })
 }
 
-pub fn block_line(line: &[u8], at: u64, l: &mut [u64]) -> BlockLine
+pub fn block_line(line: &[u8], at: u64, l: &mut [u64]) -> Result<BlockLine, BadField>
     ensures { left result l.new ≡ block_into at (split 9 line.now) l.old }
 {
-    let first = after(line, 0);
-    let second = after(line, first);
-    let arguments = field(line, first, second);
-    let operations = field(line, second, after(line, second));
-    let a = two_lists(arguments, operations, at, l);
-    match a {
-        Pair::BadFirst => BlockLine::Bad(2),
-        Pair::BadSecond => BlockLine::Bad(3),
-        Pair::Counts(arguments, operations) => BlockLine::Row {
-            arguments,
-            operations,
-        },
-    }
+    let mut rest = Cursor::new(line);
+    let arguments = rest.list(Width::Unsigned(MAX_ID), at, l)?;
+    let second = at.saturating_add(arguments);
+    let operations = rest.list(Width::Unsigned(MAX_ID), second, l)?;
+    Ok(BlockLine {
+        arguments,
+        operations,
+    })
 }
 
-pub fn region_line(line: &[u8], at: u64, l: &mut [u64]) -> RegionLine
+// How many blocks a region has.
+pub fn region_line(line: &[u8], at: u64, l: &mut [u64]) -> Result<u64, BadField>
     ensures { left result l.new ≡ region_into at (split 9 line.now) l.old }
 {
-    let first = after(line, 0);
-    let last = field(line, first, after(line, first));
-    let a = list_into(last, Width::Unsigned(MAX_ID), at, l);
-    let Listed::Count(blocks) = a else {
-        return RegionLine::Bad(2);
-    };
-    RegionLine::Row(blocks)
+    Cursor::new(line).list(Width::Unsigned(MAX_ID), at, l)
 }

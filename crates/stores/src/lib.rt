@@ -2,103 +2,72 @@
 #![tactic(auto)]
 
 ghost use Rattle.std.specs.Prelude.{◌≡◌, ◌+◌, ◌*◌, leb};
-ghost use Rattle.std.proofs.lemmas.List.Edits.{sets};
 ghost use Rattle.fields.specs.Cut.{split};
 ghost use Rattle.lines.specs.Line.{type_line, value_line, function_line};
 ghost use Rattle.lines.specs.Into.{left};
+ghost use Rattle.stores.specs.declared.Unstored.TheVariants.{Bad};
 ghost use Rattle.stores.specs.Store.{type_store, value_store, function_store, both, operation_store, attribute_store, block_store, region_store, one_attribute_more};
 
 use cells::narrow;
-use lines::{AttributeLine, BlockLine, FunctionLine, OperationLine, RegionLine, ValueLine};
+use lines::BadField;
 
-// What storing a line gives: the list entries in use after it, its bad field, or no room for it.
+// Why a line is not stored: its bad field, or no room for it.
 #[derive(Clone, Copy)]
-pub enum Step {
-    Taken(u64),
+pub enum Unstored {
     Bad(u64),
     Full,
 }
 
-// A row written from a place on, as far as the table goes.
-fn store_u64(table: &mut [u64], at: u64, row: &[u64])
-    ensures { table.new ≡ sets table.old at row.now }
-{
-    let start = cells::least(at, table.len() as u64);
-    let mut i: usize = 0;
-    while i < row.len() {
-        cells::put(table, start + i as u64, row[i]);
-        i += 1;
+impl From<BadField> for Unstored {
+    ghost from_gives = { λ e r. r ≡ Bad e.field };
+
+    fn from(bad: BadField) -> Unstored {
+        Unstored::Bad(bad.field)
     }
 }
 
-fn store_u32(table: &mut [u32], at: u64, row: &[u32])
-    ensures { table.new ≡ sets table.old at row.now }
-{
-    let start = cells::least(at, table.len() as u64);
-    let mut i: usize = 0;
-    while i < row.len() {
-        cells::put(table, start + i as u64, row[i]);
-        i += 1;
-    }
-}
-
-pub fn store_type(line: &[u8], at: u64, n: u64, t: &mut [u64]) -> Step
+// Storing a line gives the list entries in use after it.
+pub fn store_type(line: &[u8], at: u64, n: u64, t: &mut [u64]) -> Result<u64, Unstored>
     ensures { left result t.new ≡ type_store at n (type_line (split 9 line.now)) t.old }
 {
-    let w = lines::type_line(line);
-    if w.fault != 0 {
-        return Step::Bad(w.fault);
-    }
+    let w = lines::type_line(line)?;
     if tables::MAX_TYPES <= n {
-        return Step::Full;
+        return Err(Unstored::Full);
     }
     if tables::MAX_RANK < w.rank {
-        return Step::Full;
+        return Err(Unstored::Full);
     }
     let start = n * tables::TYPE_CELLS;
     let front = [w.form, w.kind, w.pointer, w.padded, w.sparse, w.rank, 0, 0];
-    store_u64(t, start, &front);
-    let dims = w.dims;
-    store_u64(t, start + 8, &dims);
-    Step::Taken(at)
+    lines::put_row(t, start, &front);
+    lines::put_row(t, start + 8, &w.dims);
+    Ok(at)
 }
 
-pub fn store_value(line: &[u8], at: u64, n: u64, v: &mut [u64]) -> Step
+pub fn store_value(line: &[u8], at: u64, n: u64, v: &mut [u64]) -> Result<u64, Unstored>
     ensures { left result v.new ≡ value_store at n (value_line (split 9 line.now)) v.old }
 {
-    let w = lines::value_line(line);
-    match w {
-        ValueLine::Bad(k) => Step::Bad(k),
-        ValueLine::Row {
-            type_id,
-            claims,
-            operation,
-            index,
-        } => {
-            if tables::MAX_VALUES <= n {
-                return Step::Full;
-            }
-            let row = [type_id, claims, operation, index];
-            store_u64(v, n * tables::VALUE_CELLS, &row);
-            Step::Taken(at)
-        }
+    let w = lines::value_line(line)?;
+    if tables::MAX_VALUES <= n {
+        return Err(Unstored::Full);
     }
+    let row = match w.claim {
+        Some(claim) => [w.type_id, 1, claim.operation, claim.index],
+        None => [w.type_id, 0, 0, 0],
+    };
+    lines::put_row(v, n * tables::VALUE_CELLS, &row);
+    Ok(at)
 }
 
-pub fn store_function(line: &[u8], at: u64, n: u64, f: &mut [u32]) -> Step
+pub fn store_function(line: &[u8], at: u64, n: u64, f: &mut [u32]) -> Result<u64, Unstored>
     ensures { left result f.new ≡ function_store at n (function_line (split 9 line.now)) f.old }
 {
-    let w = lines::function_line(line);
-    match w {
-        FunctionLine::Bad(k) => Step::Bad(k),
-        FunctionLine::Row(operation) => {
-            if tables::MAX_FUNCTIONS <= n {
-                return Step::Full;
-            }
-            cells::put(f, n, narrow(operation));
-            Step::Taken(at)
-        }
+    let operation = lines::function_line(line)?;
+    if tables::MAX_FUNCTIONS <= n {
+        return Err(Unstored::Full);
     }
+    cells::put(f, n, narrow(operation));
+    Ok(at)
 }
 
 // Whether three lists more have room in the list entries.
@@ -127,126 +96,110 @@ pub fn store_operation(
     first: u64,
     o: &mut [u32],
     l: &mut [u64],
-) -> Step
+) -> Result<u64, Unstored>
     ensures { both result o.new l.new ≡ operation_store at n first (split 9 line.now) o.old l.old }
 {
-    let w = lines::operation_line(line, at, l);
-    match w {
-        OperationLine::Bad(k) => Step::Bad(k),
-        OperationLine::Row {
-            opcode,
-            results,
-            operands,
-            regions,
-        } => {
-            if tables::MAX_OPERATIONS <= n {
-                return Step::Full;
-            }
-            if has_room(at, results, operands, regions) {
-                let second = at + results;
-                let third = second + operands;
-                let lists = [
-                    narrow(opcode),
-                    narrow(at),
-                    narrow(results),
-                    narrow(second),
-                    narrow(operands),
-                    narrow(third),
-                    narrow(regions),
-                    narrow(first),
-                ];
-                let start = n * tables::OPERATION_CELLS;
-                store_u32(o, start, &lists);
-                let rest = [0u32; 8];
-                store_u32(o, start + 8, &rest);
-                return Step::Taken(third + regions);
-            }
-            Step::Full
-        }
+    let w = lines::operation_line(line, at, l)?;
+    if tables::MAX_OPERATIONS <= n {
+        return Err(Unstored::Full);
     }
+    if !has_room(at, w.results, w.operands, w.regions) {
+        return Err(Unstored::Full);
+    }
+    let second = at + w.results;
+    let third = second + w.operands;
+    let lists = [
+        narrow(w.opcode),
+        narrow(at),
+        narrow(w.results),
+        narrow(second),
+        narrow(w.operands),
+        narrow(third),
+        narrow(w.regions),
+        narrow(first),
+    ];
+    let start = n * tables::OPERATION_CELLS;
+    lines::put_row(o, start, &lists);
+    lines::put_row(o, start + 8, &[0u32; 8]);
+    Ok(third + w.regions)
 }
 
-pub fn store_attribute(line: &[u8], at: u64, n: u64, a: &mut [u32], l: &mut [u64]) -> Step
+pub fn store_attribute(
+    line: &[u8],
+    at: u64,
+    n: u64,
+    a: &mut [u32],
+    l: &mut [u64],
+) -> Result<u64, Unstored>
     ensures { both result a.new l.new ≡ attribute_store at n (split 9 line.now) a.old l.old }
 {
-    let w = lines::attribute_line(line, at, l);
-    match w {
-        AttributeLine::Bad(k) => Step::Bad(k),
-        AttributeLine::Row {
-            name,
-            form,
-            count,
-            missing,
-        } => {
-            if tables::MAX_ATTRIBUTES <= n {
-                return Step::Full;
-            }
-            if has_room(at, count, 0, 0) {
-                let row = [
-                    narrow(name),
-                    narrow(form),
-                    narrow(at),
-                    narrow(count),
-                    narrow(missing),
-                    0,
-                    0,
-                    0,
-                ];
-                store_u32(a, n * tables::ATTRIBUTE_CELLS, &row);
-                return Step::Taken(at + count);
-            }
-            Step::Full
-        }
+    let w = lines::attribute_line(line, at, l)?;
+    if tables::MAX_ATTRIBUTES <= n {
+        return Err(Unstored::Full);
     }
+    if !has_room(at, w.count, 0, 0) {
+        return Err(Unstored::Full);
+    }
+    let row = [
+        narrow(w.name),
+        narrow(w.form),
+        narrow(at),
+        narrow(w.count),
+        narrow(w.missing),
+        0,
+        0,
+        0,
+    ];
+    lines::put_row(a, n * tables::ATTRIBUTE_CELLS, &row);
+    Ok(at + w.count)
 }
 
-pub fn store_block(line: &[u8], at: u64, n: u64, b: &mut [u32], l: &mut [u64]) -> Step
+pub fn store_block(
+    line: &[u8],
+    at: u64,
+    n: u64,
+    b: &mut [u32],
+    l: &mut [u64],
+) -> Result<u64, Unstored>
     ensures { both result b.new l.new ≡ block_store at n (split 9 line.now) b.old l.old }
 {
-    let w = lines::block_line(line, at, l);
-    match w {
-        BlockLine::Bad(k) => Step::Bad(k),
-        BlockLine::Row {
-            arguments,
-            operations,
-        } => {
-            if tables::MAX_BLOCKS <= n {
-                return Step::Full;
-            }
-            if has_room(at, arguments, operations, 0) {
-                let second = at + arguments;
-                let row = [
-                    narrow(at),
-                    narrow(arguments),
-                    narrow(second),
-                    narrow(operations),
-                ];
-                store_u32(b, n * tables::BLOCK_CELLS, &row);
-                return Step::Taken(second + operations);
-            }
-            Step::Full
-        }
+    let w = lines::block_line(line, at, l)?;
+    if tables::MAX_BLOCKS <= n {
+        return Err(Unstored::Full);
     }
+    if !has_room(at, w.arguments, w.operations, 0) {
+        return Err(Unstored::Full);
+    }
+    let second = at + w.arguments;
+    let row = [
+        narrow(at),
+        narrow(w.arguments),
+        narrow(second),
+        narrow(w.operations),
+    ];
+    lines::put_row(b, n * tables::BLOCK_CELLS, &row);
+    Ok(second + w.operations)
 }
 
-pub fn store_region(line: &[u8], at: u64, n: u64, r: &mut [u32], l: &mut [u64]) -> Step
+pub fn store_region(
+    line: &[u8],
+    at: u64,
+    n: u64,
+    r: &mut [u32],
+    l: &mut [u64],
+) -> Result<u64, Unstored>
     ensures { both result r.new l.new ≡ region_store at n (split 9 line.now) r.old l.old }
 {
-    let w = lines::region_line(line, at, l);
-    match w {
-        RegionLine::Bad(k) => Step::Bad(k),
-        RegionLine::Row(blocks) => {
-            if tables::MAX_REGIONS <= n {
-                return Step::Full;
-            }
-            if has_room(at, blocks, 0, 0) {
-                let row = [narrow(at), narrow(blocks)];
-                store_u32(r, n * tables::REGION_CELLS, &row);
-                return Step::Taken(at + blocks);
-            }
-            Step::Full
-        }
+    let blocks = lines::region_line(line, at, l)?;
+    if tables::MAX_REGIONS <= n {
+        return Err(Unstored::Full);
     }
+    if !has_room(at, blocks, 0, 0) {
+        return Err(Unstored::Full);
+    }
+    let row = [narrow(at), narrow(blocks)];
+    lines::put_row(r, n * tables::REGION_CELLS, &row);
+    Ok(at + blocks)
 }
 
 // One attribute more for an operation.

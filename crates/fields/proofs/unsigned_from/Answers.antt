@@ -1,10 +1,11 @@
 -- `unsigned_from` meets its contract: the part from the cursor on makes of the value so far what the whole part is.
-use mathlib.Core.Path.{refl, ◌∙◌}
+use mathlib.Core.Path.{refl, ◌∙◌, ap}
 use native.Mathlib.Omega.{arith}
-use lib.ListN.{get_or}
+use lib.ListN.{length, get_or}
 use Rattle.fields.proofs.Digits.{low, high, over, fine}
-use Rattle.fields.proofs.Takes.{take_end, take_here, take_stuck, take_onward, no_part, empty_part, take_start, zero_last, zero_alone, zero_leads}
+use Rattle.fields.proofs.Takes.{take_on, take_end, take_here, take_stuck, take_onward, no_part, empty_part, take_start, zero_last, zero_alone, zero_leads}
 use Rattle.fields.proofs.unsigned_from.Goals as goal
+use Rattle.fields.proofs.unsigned_from.Goals.{then-first-n+else-s-first-2, else-first-n}
 
 pub returns-then-n-first : goal.returns-then-n-first
 returns-then-n-first c =
@@ -14,17 +15,16 @@ pub returns-then-s-first : goal.returns-then-s-first
 returns-then-s-first c =
     empty_part _ _ _ _ (omega arith) c.if-s-first.true
 
-pub returns-then-n-first-2 : goal.returns-then-n-first-2
-returns-then-n-first-2 c =
-    zero_last _ _ _ _ (omega arith) c.if-s-first.false c.if-s-first-eq48.true c.if-n-first-2.true
-
 pub returns-then-s-first-2 : goal.returns-then-s-first-2
 returns-then-s-first-2 c =
-    zero_alone _ _ _ _ (omega arith) c.if-s-first.false c.if-s-first-eq48.true (omega arith) c.if-s-first-2.true
+    zero_leads _ _ _ _ (omega arith) c.if-s-first.false c.if-s-first-eq48.true (omega arith) c.if-s-first-2.true
 
 pub returns-then-s-first-eq48 : goal.returns-then-s-first-eq48
 returns-then-s-first-eq48 c =
-    zero_leads _ _ _ _ (omega arith) c.if-s-first.false c.if-s-first-eq48.true (omega arith) c.if-s-first-2.false
+    elim c.if-first-n.branch [
+      | then-first-n+else-s-first-2 w ↦ zero_alone _ _ _ _ (omega arith) c.if-s-first.false c.if-s-first-eq48.true w.if-first-n.true (omega arith)
+      | else-first-n w ↦ zero_last _ _ _ _ (omega arith) c.if-s-first.false c.if-s-first-eq48.true (omega arith)
+    ]
 
 pub loop-i-init : goal.loop-i-init
 loop-i-init c =
@@ -65,8 +65,11 @@ loop-i-preserved c =
     let a = c.args in
     let l = c.loop-i in
     let more = fine a.max l.x (get_or a.s.now l.i 0) (omega arith) (omega arith) (omega arith) in
-    (refl, omega arith, omega arith, rw c.wide-digit.ensures (take_onward _ _ l.x l.i _ (omega arith) c.if-b-byte.false more ∙ l.invariant.3))
+    (refl, omega arith, omega arith, rw c.from-digit.ensures (take_onward _ _ l.x l.i _ (omega arith) c.if-b-byte.false more ∙ l.invariant.3))
 
 pub returns : goal.returns
 returns c =
-    let l = c.loop-i in take_end _ _ l.x l.i _ (omega arith) (omega arith) ∙ l.invariant.3
+    let a = c.args in
+    let l = c.loop-i in
+    take_end a.byte a.max l.x (length a.s.now) a.s.now (omega arith) (omega arith)
+    ∙ ap (λ (i : _). take_on a.byte a.max l.x i a.s.now) (omega arith) ∙ l.invariant.3

@@ -9,6 +9,3 @@ use Rattle.fields.proofs.unsigned_from.Given as goal
 abbrev pub invariant-loop-i : goal.invariant-loop-i
 invariant-loop-i z =
     (z.n ≡ length z.s) × (z.i ≤ z.n) × (z.x ≤ z.max) × (take_on z.byte z.max z.x z.i z.s ≡ unsigned_from z.byte z.max z.start z.s)
-
-abbrev pub decreases-loop-i : goal.decreases-loop-i
-decreases-loop-i z = z.n - z.i
