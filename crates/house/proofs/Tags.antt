@@ -1,4 +1,5 @@
 -- The kind of a line: its tag, the fields and the phase it asks for, and the counts after it.
+use Rattle.std.specs.Prelude.{Result, Ok, Err}
 use Prim.Native.Nat.{ℕ, suc, ◌+◌, ◌≤◌, ◌<◌}
 use mathlib.Core.Bool.{Bool, true, false, ◌&&◌, ◌||◌, cond}
 use mathlib.Core.List.{List, [], ◌∷◌}
@@ -10,14 +11,13 @@ use borrow.Author.Tests.{eq-eqb, ne_eqb, lt-ltb, le-ltb}
 use Rattle.fields.specs.Cut.{nth}
 use Rattle.lines.specs.Field.{Read, says, bad}
 use Rattle.lines.specs.Line.{HeaderRow}
-use Rattle.lines.specs.Answer.{header_of}
+use Rattle.lines.specs.Answer.{bad_field, header_of}
 use Rattle.lines.specs.declared.HeaderLine.{HeaderLine}
-use Rattle.lines.specs.declared.HeaderLine.TheVariants.{Row as Header, Bad as BadHeader}
-use Rattle.std.specs.Prelude.{Ok}
+use Rattle.lines.specs.declared.BadField.{BadField}
 use Rattle.tables.specs.declared.Refusal.TheVariants.{OutOfRange, NotInForm}
 use Rattle.house.specs.declared.Reading.{Reading}
-use Rattle.stores.specs.declared.Step.{Step}
-use Rattle.stores.specs.declared.Step.TheVariants.{Taken, Bad, Full}
+use Rattle.stores.specs.declared.Unstored.{Unstored}
+use Rattle.stores.specs.declared.Unstored.TheVariants.{Bad, Full}
 use Rattle.names.specs.Names.{bytes, equal}
 use Rattle.tables.specs.declared.Counts.{Counts}
 use Rattle.house.specs.House.{counts, Tag, header, type, value, operation, attribute, block, region, function, unknown, tag_of, fields_of, in_order}
@@ -146,16 +146,16 @@ abbrev reading : ℕ → ℕ → ℕ → ℕ → ℕ → ℕ → Counts → Read
 reading phase lines end entries version sm n =
     record { phase = phase; lines = lines; bytes = end; entries = entries; version = version; sm = sm; counts = n; answer = (Ok tt) }
 
-module _ (s : Reading) (k end : ℕ) (step : Step) where
-  pub advance_bad : (field line : ℕ) (r : Reading) → r ≡ refusing (NotInForm line field) → line ≡ next s.lines → step ≡ Bad field → r ≡ advance_of s k end step
+module _ (s : Reading) (k end : ℕ) (step : Result ℕ Unstored) where
+  pub advance_bad : (field line : ℕ) (r : Reading) → r ≡ refusing (NotInForm line field) → line ≡ next s.lines → step ≡ Err (Bad field) → r ≡ advance_of s k end step
   unfolding advance_of
   advance_bad field line r e q h = e ∙ ap (λ (x : ℕ). refusing (NotInForm x field)) q ∙ sym (ap (advance_of s k end) h)
 
-  pub advance_full : (entry : ℕ) (r : Reading) → r ≡ refusing (OutOfRange k entry) → entry ≡ count_of s.counts k → step ≡ Full → r ≡ advance_of s k end step
+  pub advance_full : (entry : ℕ) (r : Reading) → r ≡ refusing (OutOfRange k entry) → entry ≡ count_of s.counts k → step ≡ Err Full → r ≡ advance_of s k end step
   unfolding advance_of
   advance_full entry r e q h = e ∙ ap (λ (x : ℕ). refusing (OutOfRange k x)) q ∙ sym (ap (advance_of s k end) h)
 
-  pub advance_taken : (entries phase line : ℕ) (n : Counts) → phase ≡ phase_of k → line ≡ next s.lines → n ≡ counted s.counts k → step ≡ Taken entries
+  pub advance_taken : (entries phase line : ℕ) (n : Counts) → phase ≡ phase_of k → line ≡ next s.lines → n ≡ counted s.counts k → step ≡ Ok entries
       → reading phase line end entries s.version s.sm n ≡ advance_of s k end step
   unfolding advance_of
   advance_taken entries phase line n ep el en h =
@@ -164,29 +164,29 @@ module _ (s : Reading) (k end : ℕ) (step : Step) where
       ∙ ap (reading (phase_of k) (next s.lines) end entries s.version s.sm) en
       ∙ sym (ap (advance_of s k end) h)
 
-module _ (s : Reading) (end : ℕ) (y : Read HeaderRow) (w : HeaderLine) (e : w ≡ header_of y) where
-  pub header_bad : (field line : ℕ) (r : Reading) → r ≡ refusing (NotInForm line field) → line ≡ next s.lines → w ≡ BadHeader field
+module _ (s : Reading) (end : ℕ) (y : Read HeaderRow) (w : Result HeaderLine BadField) (e : w ≡ header_of y) where
+  pub header_bad : (b : BadField) (line : ℕ) (r : Reading) → r ≡ refusing (NotInForm line b.field) → line ≡ next s.lines → w ≡ Err b
       → r ≡ header_next s end y
   unfolding header_next
-  header_bad field line r er q h = er ∙ ap (λ (x : ℕ). refusing (NotInForm x field)) q ∙ by y (sym h ∙ e)
+  header_bad b line r er q h = er ∙ ap (λ (x : ℕ). refusing (NotInForm x b.field)) q ∙ by y (sym h ∙ e)
     where
-      by : (y : Read HeaderRow) → BadHeader field ≡ header_of y → refusing (NotInForm (next s.lines) field) ≡ header_next s end y
-      by (bad k) p = let same : field ≡ k = cc in ap (λ (x : ℕ). refusing (NotInForm (next s.lines) x)) same
+      by : (y : Read HeaderRow) → Err b ≡ header_of y → refusing (NotInForm (next s.lines) b.field) ≡ header_next s end y
+      by (bad k) p =
+          let same : b ≡ bad_field k = cc in
+          ap (λ (x : BadField). refusing (NotInForm (next s.lines) x.field)) same
       by (says v) p = impossible (cc)
 
-  pub header_row : (version sm line : ℕ) → line ≡ next s.lines → w ≡ Header version sm
-      → reading 1 line end s.entries version sm s.counts ≡ header_next s end y
+  pub header_row : (row : HeaderLine) (line : ℕ) → line ≡ next s.lines → w ≡ Ok row
+      → reading 1 line end s.entries row.version row.sm s.counts ≡ header_next s end y
   unfolding header_next
-  header_row version sm line q h = ap (λ (x : ℕ). reading 1 x end s.entries version sm s.counts) q ∙ by y (sym h ∙ e)
+  header_row row line q h = ap (λ (x : ℕ). reading 1 x end s.entries row.version row.sm s.counts) q ∙ by y (sym h ∙ e)
     where
-      by : (y : Read HeaderRow) → Header version sm ≡ header_of y
-          → reading 1 (next s.lines) end s.entries version sm s.counts ≡ header_next s end y
+      by : (y : Read HeaderRow) → Ok row ≡ header_of y
+          → reading 1 (next s.lines) end s.entries row.version row.sm s.counts ≡ header_next s end y
       by (bad k) p = impossible (cc)
       by (says v) p =
-          let a : version ≡ v.version = cc in
-          let b : sm ≡ v.sm = cc in
-          ap (λ (x : ℕ). reading 1 (next s.lines) end s.entries x sm s.counts) a
-          ∙ ap (λ (x : ℕ). reading 1 (next s.lines) end s.entries v.version x s.counts) b
+          let same : row ≡ record { version = v.version; sm = v.sm } = cc in
+          ap (λ (x : HeaderLine). reading 1 (next s.lines) end s.entries x.version x.sm s.counts) same
 
 -- ---- a line past the text
 module _ (len bytes lines attributes : ℕ) where

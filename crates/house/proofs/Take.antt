@@ -1,4 +1,5 @@
 -- One line taken: what was stored and the reading after it, with the tables zeroed where it is refused, is what the definition says.
+use Rattle.std.specs.Prelude.{Result, Ok, Err}
 use Prim.Native.Nat.{ℕ, suc, ◌+◌, ◌-◌, ◌*◌, ◌%◌, ◌^◌, ◌≤◌, ◌<◌}
 use mathlib.Core.Bool.{Bool, true, false, ◌&&◌, ◌||◌, cond}
 use mathlib.Core.List.{List, ◌++◌}
@@ -27,8 +28,8 @@ use Rattle.house.specs.State.{State}
 use Rattle.house.specs.House.{no_counts, zeros, zeroed, refuse, taken, counts, or_size, read, take_header, take_type, take_value, take_operation, take_attribute, take_block, take_region, take_function, Tag, header, type, value, operation, attribute, block, region, function, unknown, tag_of, fields_of, in_order, take_line, well_placed, placed, too_far, judged, onward, line_of}
 use Rattle.house.specs.Step.{tag_number, tag_at, kind_of, next, refusing, count_of, counted, phase_of, advance_of, header_next, state_of, settled_by, settled}
 use Rattle.house.specs.declared.Reading.{Reading}
-use Rattle.stores.specs.declared.Step.{Step}
-use Rattle.stores.specs.declared.Step.TheVariants.{Taken, Bad, Full}
+use Rattle.stores.specs.declared.Unstored.{Unstored}
+use Rattle.stores.specs.declared.Unstored.TheVariants.{Bad, Full}
 use Rattle.stores.proofs.Stores.{impossible}
 
 next_is : (x : ℕ) → x < 2 ^ 32 → next x ≡ suc x
@@ -42,18 +43,18 @@ module _ (s s' : Reading) (x x' : Tables) where
       ∙ ap (λ (y : Tables). record { phase = 0; lines = 0; bytes = 0; entries = 0; version = 0; sm = 0; tables = y; answer = Err q }) z
 
   module _ (k end : ℕ) where
-    pub settled_bad : (field : ℕ) → s' ≡ advance_of s k end (Bad field) → s.lines < 2 ^ 32 → zeroed x' ≡ zeroed x
+    pub settled_bad : (field : ℕ) → s' ≡ advance_of s k end (Err (Bad field)) → s.lines < 2 ^ 32 → zeroed x' ≡ zeroed x
         → settled (state_of s' x') ≡ refuse (NotInForm (suc s.lines) field) (state_of s x)
     unfolding advance_of
     settled_bad field e h z =
         settled_refused (NotInForm (suc s.lines) field) (e ∙ ap (λ (n : ℕ). refusing (NotInForm n field)) (next_is s.lines h)) z
 
-    settled_full : s' ≡ advance_of s k end Full → zeroed x' ≡ zeroed x
+    settled_full : s' ≡ advance_of s k end (Err Full) → zeroed x' ≡ zeroed x
         → settled (state_of s' x') ≡ refuse (OutOfRange k (count_of s.counts k)) (state_of s x)
     unfolding advance_of
     settled_full e z = settled_refused (OutOfRange k (count_of s.counts k)) e z
 
-    settled_taken : (entries more : ℕ) (n : Counts) → s' ≡ advance_of s k end (Taken entries) → s.lines < 2 ^ 32 → entries ≡ s.entries + more
+    settled_taken : (entries more : ℕ) (n : Counts) → s' ≡ advance_of s k end (Ok entries) → s.lines < 2 ^ 32 → entries ≡ s.entries + more
         → counted s.counts k ≡ n
         → settled (state_of s' x') ≡ taken (state_of s x) (phase_of k) end more (lent x'.t x'.v x'.o x'.a x'.b x'.r x'.f x'.l n)
     unfolding advance_of
@@ -72,7 +73,7 @@ both_true true u e = refl
 both_true false u e = impossible (cc)
 
 -- ---- `T`
-module _ (s s' : Reading) (end : ℕ) (t v o a b r f l : List ℕ) (fs : List (List ℕ)) (h : s.lines < 2 ^ 32) (step : Step) (t' : List ℕ)
+module _ (s s' : Reading) (end : ℕ) (t v o a b r f l : List ℕ) (fs : List (List ℕ)) (h : s.lines < 2 ^ 32) (step : Result ℕ Unstored) (t' : List ℕ)
     (e : left step t' ≡ type_store s.entries s.counts.types (type_line fs) t) (es : s' ≡ advance_of s 1 end step) where
   pub took_type_lem : settled (state_of s' (lent t' v o a b r f l no_counts)) ≡ take_line (state_of s (lent t v o a b r f l no_counts)) end fs type
   unfolding type_store
@@ -90,30 +91,30 @@ module _ (s s' : Reading) (end : ℕ) (t v o a b r f l : List ℕ) (fs : List (L
       small : (w : TypeRow) → ltb s.counts.types 1024 && leb (length w.dims) 8 ≡ true → s.counts.types < 2 ^ 32
       small w q = let a = ltb-true s.counts.types 1024 (both_true (ltb s.counts.types 1024) (leb (length w.dims) 8) q) in omega arith
 
-      room : (T : Bool) (w : TypeRow) → ltb s.counts.types 1024 && leb (length w.dims) 8 ≡ T → left step t' ≡ cond T (left (Taken s.entries) (sets t (s.counts.types * 16) (type_cells w))) (left Full t)
+      room : (T : Bool) (w : TypeRow) → ltb s.counts.types 1024 && leb (length w.dims) 8 ≡ T → left step t' ≡ cond T (left (Ok s.entries) (sets t (s.counts.types * 16) (type_cells w))) (left (Err Full) t)
           → settled (state_of s' x') ≡ or_size T 1 s.counts.types (state_of s x)
           (taken (state_of s x) 1 end 0 (lent (sets t (s.counts.types * 16) (type_cells w)) v o a b r f l (counts (suc s.counts.types) s.counts.values s.counts.operations s.counts.attributes s.counts.blocks s.counts.regions s.counts.functions)))
       room true w q d =
-          let st : step ≡ Taken s.entries = ap (λ (y : Left Step). y.answer) d in
-          let tb : t' ≡ sets t (s.counts.types * 16) (type_cells w) = ap (λ (y : Left Step). y.entries) d in
+          let st : step ≡ Ok s.entries = ap (λ (y : Left (Result ℕ Unstored)). y.answer) d in
+          let tb : t' ≡ sets t (s.counts.types * 16) (type_cells w) = ap (λ (y : Left (Result ℕ Unstored)). y.entries) d in
           settled_taken s s' x x' 1 end s.entries 0 (counts (suc s.counts.types) s.counts.values s.counts.operations s.counts.attributes s.counts.blocks s.counts.regions s.counts.functions) (es ∙ ap (advance_of s 1 end) st) h (omega arith)
           (ap (λ (m : ℕ). counts m s.counts.values s.counts.operations s.counts.attributes s.counts.blocks s.counts.regions s.counts.functions) (next_is s.counts.types (small w q)))
           ∙ ap (λ (y : List ℕ). taken (state_of s x) 1 end 0 (lent y v o a b r f l (counts (suc s.counts.types) s.counts.values s.counts.operations s.counts.attributes s.counts.blocks s.counts.regions s.counts.functions))) tb
       room false w q d =
-          let st : step ≡ Full = ap (λ (y : Left Step). y.answer) d in
-          let tb : t' ≡ t = ap (λ (y : Left Step). y.entries) d in
+          let st : step ≡ Err Full = ap (λ (y : Left (Result ℕ Unstored)). y.answer) d in
+          let tb : t' ≡ t = ap (λ (y : Left (Result ℕ Unstored)). y.entries) d in
           settled_full s s' x x' 1 end (es ∙ ap (advance_of s 1 end) st) (long (ap length tb))
 
       by : (y : Read TypeRow) → left step t' ≡ type_store s.entries s.counts.types y t
           → settled (state_of s' x') ≡ read (state_of s x) y (take_type (state_of s x) end)
       by (bad k) d =
-          let st : step ≡ Bad k = ap (λ (y : Left Step). y.answer) d in
-          let tb : t' ≡ t = ap (λ (y : Left Step). y.entries) d in
+          let st : step ≡ Err (Bad k) = ap (λ (y : Left (Result ℕ Unstored)). y.answer) d in
+          let tb : t' ≡ t = ap (λ (y : Left (Result ℕ Unstored)). y.entries) d in
           settled_bad s s' x x' 1 end k (es ∙ ap (advance_of s 1 end) st) h (long (ap length tb))
       by (says w) d = room (ltb s.counts.types 1024 && leb (length w.dims) 8) w refl d
 
 -- ---- `V`
-module _ (s s' : Reading) (end : ℕ) (t v o a b r f l : List ℕ) (fs : List (List ℕ)) (h : s.lines < 2 ^ 32) (step : Step) (v' : List ℕ)
+module _ (s s' : Reading) (end : ℕ) (t v o a b r f l : List ℕ) (fs : List (List ℕ)) (h : s.lines < 2 ^ 32) (step : Result ℕ Unstored) (v' : List ℕ)
     (e : left step v' ≡ value_store s.entries s.counts.values (value_line fs) v) (es : s' ≡ advance_of s 2 end step) where
   pub took_value_lem : settled (state_of s' (lent t v' o a b r f l no_counts)) ≡ take_line (state_of s (lent t v o a b r f l no_counts)) end fs value
   unfolding value_store
@@ -131,30 +132,30 @@ module _ (s s' : Reading) (end : ℕ) (t v o a b r f l : List ℕ) (fs : List (L
       small : (w : ValueRow) → ltb s.counts.values 4096 ≡ true → s.counts.values < 2 ^ 32
       small w q = let a = ltb-true s.counts.values 4096 q in omega arith
 
-      room : (T : Bool) (w : ValueRow) → ltb s.counts.values 4096 ≡ T → left step v' ≡ cond T (left (Taken s.entries) (sets v (s.counts.values * 4) (value_cells w))) (left Full v)
+      room : (T : Bool) (w : ValueRow) → ltb s.counts.values 4096 ≡ T → left step v' ≡ cond T (left (Ok s.entries) (sets v (s.counts.values * 4) (value_cells w))) (left (Err Full) v)
           → settled (state_of s' x') ≡ or_size T 2 s.counts.values (state_of s x)
           (taken (state_of s x) 2 end 0 (lent t (sets v (s.counts.values * 4) (value_cells w)) o a b r f l (counts s.counts.types (suc s.counts.values) s.counts.operations s.counts.attributes s.counts.blocks s.counts.regions s.counts.functions)))
       room true w q d =
-          let st : step ≡ Taken s.entries = ap (λ (y : Left Step). y.answer) d in
-          let tb : v' ≡ sets v (s.counts.values * 4) (value_cells w) = ap (λ (y : Left Step). y.entries) d in
+          let st : step ≡ Ok s.entries = ap (λ (y : Left (Result ℕ Unstored)). y.answer) d in
+          let tb : v' ≡ sets v (s.counts.values * 4) (value_cells w) = ap (λ (y : Left (Result ℕ Unstored)). y.entries) d in
           settled_taken s s' x x' 2 end s.entries 0 (counts s.counts.types (suc s.counts.values) s.counts.operations s.counts.attributes s.counts.blocks s.counts.regions s.counts.functions) (es ∙ ap (advance_of s 2 end) st) h (omega arith)
           (ap (λ (m : ℕ). counts s.counts.types m s.counts.operations s.counts.attributes s.counts.blocks s.counts.regions s.counts.functions) (next_is s.counts.values (small w q)))
           ∙ ap (λ (y : List ℕ). taken (state_of s x) 2 end 0 (lent t y o a b r f l (counts s.counts.types (suc s.counts.values) s.counts.operations s.counts.attributes s.counts.blocks s.counts.regions s.counts.functions))) tb
       room false w q d =
-          let st : step ≡ Full = ap (λ (y : Left Step). y.answer) d in
-          let tb : v' ≡ v = ap (λ (y : Left Step). y.entries) d in
+          let st : step ≡ Err Full = ap (λ (y : Left (Result ℕ Unstored)). y.answer) d in
+          let tb : v' ≡ v = ap (λ (y : Left (Result ℕ Unstored)). y.entries) d in
           settled_full s s' x x' 2 end (es ∙ ap (advance_of s 2 end) st) (long (ap length tb))
 
       by : (y : Read ValueRow) → left step v' ≡ value_store s.entries s.counts.values y v
           → settled (state_of s' x') ≡ read (state_of s x) y (take_value (state_of s x) end)
       by (bad k) d =
-          let st : step ≡ Bad k = ap (λ (y : Left Step). y.answer) d in
-          let tb : v' ≡ v = ap (λ (y : Left Step). y.entries) d in
+          let st : step ≡ Err (Bad k) = ap (λ (y : Left (Result ℕ Unstored)). y.answer) d in
+          let tb : v' ≡ v = ap (λ (y : Left (Result ℕ Unstored)). y.entries) d in
           settled_bad s s' x x' 2 end k (es ∙ ap (advance_of s 2 end) st) h (long (ap length tb))
       by (says w) d = room (ltb s.counts.values 4096) w refl d
 
 -- ---- `F`
-module _ (s s' : Reading) (end : ℕ) (t v o a b r f l : List ℕ) (fs : List (List ℕ)) (h : s.lines < 2 ^ 32) (step : Step) (f' : List ℕ)
+module _ (s s' : Reading) (end : ℕ) (t v o a b r f l : List ℕ) (fs : List (List ℕ)) (h : s.lines < 2 ^ 32) (step : Result ℕ Unstored) (f' : List ℕ)
     (e : left step f' ≡ function_store s.entries s.counts.functions (function_line fs) f) (es : s' ≡ advance_of s 7 end step) where
   pub took_function_lem : settled (state_of s' (lent t v o a b r f' l no_counts)) ≡ take_line (state_of s (lent t v o a b r f l no_counts)) end fs function
   unfolding function_store
@@ -172,30 +173,30 @@ module _ (s s' : Reading) (end : ℕ) (t v o a b r f l : List ℕ) (fs : List (L
       small : (w : ℕ) → ltb s.counts.functions 64 ≡ true → s.counts.functions < 2 ^ 32
       small w q = let a = ltb-true s.counts.functions 64 q in omega arith
 
-      room : (T : Bool) (w : ℕ) → ltb s.counts.functions 64 ≡ T → left step f' ≡ cond T (left (Taken s.entries) (set f s.counts.functions w)) (left Full f)
+      room : (T : Bool) (w : ℕ) → ltb s.counts.functions 64 ≡ T → left step f' ≡ cond T (left (Ok s.entries) (set f s.counts.functions w)) (left (Err Full) f)
           → settled (state_of s' x') ≡ or_size T 7 s.counts.functions (state_of s x)
           (taken (state_of s x) 6 end 0 (lent t v o a b r (set f s.counts.functions w) l (counts s.counts.types s.counts.values s.counts.operations s.counts.attributes s.counts.blocks s.counts.regions (suc s.counts.functions))))
       room true w q d =
-          let st : step ≡ Taken s.entries = ap (λ (y : Left Step). y.answer) d in
-          let tb : f' ≡ set f s.counts.functions w = ap (λ (y : Left Step). y.entries) d in
+          let st : step ≡ Ok s.entries = ap (λ (y : Left (Result ℕ Unstored)). y.answer) d in
+          let tb : f' ≡ set f s.counts.functions w = ap (λ (y : Left (Result ℕ Unstored)). y.entries) d in
           settled_taken s s' x x' 7 end s.entries 0 (counts s.counts.types s.counts.values s.counts.operations s.counts.attributes s.counts.blocks s.counts.regions (suc s.counts.functions)) (es ∙ ap (advance_of s 7 end) st) h (omega arith)
           (ap (λ (m : ℕ). counts s.counts.types s.counts.values s.counts.operations s.counts.attributes s.counts.blocks s.counts.regions m) (next_is s.counts.functions (small w q)))
           ∙ ap (λ (y : List ℕ). taken (state_of s x) 6 end 0 (lent t v o a b r y l (counts s.counts.types s.counts.values s.counts.operations s.counts.attributes s.counts.blocks s.counts.regions (suc s.counts.functions)))) tb
       room false w q d =
-          let st : step ≡ Full = ap (λ (y : Left Step). y.answer) d in
-          let tb : f' ≡ f = ap (λ (y : Left Step). y.entries) d in
+          let st : step ≡ Err Full = ap (λ (y : Left (Result ℕ Unstored)). y.answer) d in
+          let tb : f' ≡ f = ap (λ (y : Left (Result ℕ Unstored)). y.entries) d in
           settled_full s s' x x' 7 end (es ∙ ap (advance_of s 7 end) st) (long (ap length tb))
 
       by : (y : Read ℕ) → left step f' ≡ function_store s.entries s.counts.functions y f
           → settled (state_of s' x') ≡ read (state_of s x) y (take_function (state_of s x) end)
       by (bad k) d =
-          let st : step ≡ Bad k = ap (λ (y : Left Step). y.answer) d in
-          let tb : f' ≡ f = ap (λ (y : Left Step). y.entries) d in
+          let st : step ≡ Err (Bad k) = ap (λ (y : Left (Result ℕ Unstored)). y.answer) d in
+          let tb : f' ≡ f = ap (λ (y : Left (Result ℕ Unstored)). y.entries) d in
           settled_bad s s' x x' 7 end k (es ∙ ap (advance_of s 7 end) st) h (long (ap length tb))
       by (says w) d = room (ltb s.counts.functions 64) w refl d
 
 -- ---- `R`
-module _ (s s' : Reading) (end : ℕ) (t v o a b r f l : List ℕ) (fs : List (List ℕ)) (h : s.lines < 2 ^ 32) (step : Step) (r' l' : List ℕ)
+module _ (s s' : Reading) (end : ℕ) (t v o a b r f l : List ℕ) (fs : List (List ℕ)) (h : s.lines < 2 ^ 32) (step : Result ℕ Unstored) (r' l' : List ℕ)
     (e : both step r' l' ≡ region_store s.entries s.counts.regions fs r l) (es : s' ≡ advance_of s 6 end step) where
   pub took_region_lem : settled (state_of s' (lent t v o a b r' f l' no_counts)) ≡ take_line (state_of s (lent t v o a b r f l no_counts)) end fs region
   unfolding region_store
@@ -214,10 +215,10 @@ module _ (s s' : Reading) (end : ℕ) (t v o a b r f l : List ℕ) (fs : List (L
       small w q = let m = ltb-true s.counts.regions 512 (both_true (ltb s.counts.regions 512) (leb (s.entries + length w) 8192) q) in omega arith
 
       room : (T : Bool) (w : List ℕ) → region_line fs ≡ says w → ltb s.counts.regions 512 && leb (s.entries + length w) 8192 ≡ T
-          → both step r' l' ≡ cond T (both (Taken (s.entries + length w)) (sets r (s.counts.regions * 2) (region_cells s.entries w)) (sets l s.entries (region_numbers fs))) (both Full r (sets l s.entries (region_numbers fs)))
+          → both step r' l' ≡ cond T (both (Ok (s.entries + length w)) (sets r (s.counts.regions * 2) (region_cells s.entries w)) (sets l s.entries (region_numbers fs))) (both (Err Full) r (sets l s.entries (region_numbers fs)))
           → settled (state_of s' x') ≡ or_size T 6 s.counts.regions (state_of s x) (taken (state_of s x) 5 end (length w) (lent t v o a b (sets r (s.counts.regions * 2) (region_cells s.entries w)) f (sets l s.entries (w)) (counts s.counts.types s.counts.values s.counts.operations s.counts.attributes s.counts.blocks (suc s.counts.regions) s.counts.functions)))
       room true w p q d =
-          let st : step ≡ Taken (s.entries + length w) = ap (λ (y : Both). y.answer) d in
+          let st : step ≡ Ok (s.entries + length w) = ap (λ (y : Both). y.answer) d in
           let tb : r' ≡ sets r (s.counts.regions * 2) (region_cells s.entries w) = ap (λ (y : Both). y.table) d in
           let lb : l' ≡ sets l s.entries (w) = ap (λ (y : Both). y.entries) d ∙ ap (sets l s.entries) (region_says fs w p) in
           settled_taken s s' x x' 6 end (s.entries + length w) (length w) (counts s.counts.types s.counts.values s.counts.operations s.counts.attributes s.counts.blocks (suc s.counts.regions) s.counts.functions) (es ∙ ap (advance_of s 6 end) st) h refl
@@ -225,17 +226,17 @@ module _ (s s' : Reading) (end : ℕ) (t v o a b r f l : List ℕ) (fs : List (L
           ∙ ap (λ (y : List ℕ). taken (state_of s x) 5 end (length w) (lent t v o a b y f l' (counts s.counts.types s.counts.values s.counts.operations s.counts.attributes s.counts.blocks (suc s.counts.regions) s.counts.functions))) tb
           ∙ ap (λ (y : List ℕ). taken (state_of s x) 5 end (length w) (lent t v o a b (sets r (s.counts.regions * 2) (region_cells s.entries w)) f y (counts s.counts.types s.counts.values s.counts.operations s.counts.attributes s.counts.blocks (suc s.counts.regions) s.counts.functions))) lb
       room false w p q d =
-          let st : step ≡ Full = ap (λ (y : Both). y.answer) d in
+          let st : step ≡ Err Full = ap (λ (y : Both). y.answer) d in
           settled_full s s' x x' 6 end (es ∙ ap (advance_of s 6 end) st) (long (ap (λ (y : Both). length y.table) d) (ap (λ (y : Both). length y.entries) d ∙ length-sets l s.entries (region_numbers fs)))
 
       by : (y : Read (List ℕ)) → region_line fs ≡ y → both step r' l' ≡ region_row s.entries s.counts.regions y r (sets l s.entries (region_numbers fs)) → settled (state_of s' x') ≡ read (state_of s x) y (take_region (state_of s x) end)
       by (bad k) p d =
-          let st : step ≡ Bad k = ap (λ (y : Both). y.answer) d in
+          let st : step ≡ Err (Bad k) = ap (λ (y : Both). y.answer) d in
           settled_bad s s' x x' 6 end k (es ∙ ap (advance_of s 6 end) st) h (long (ap (λ (y : Both). length y.table) d) (ap (λ (y : Both). length y.entries) d ∙ length-sets l s.entries (region_numbers fs)))
       by (says w) p d = room (ltb s.counts.regions 512 && leb (s.entries + length w) 8192) w p refl d
 
 -- ---- `B`
-module _ (s s' : Reading) (end : ℕ) (t v o a b r f l : List ℕ) (fs : List (List ℕ)) (h : s.lines < 2 ^ 32) (step : Step) (b' l' : List ℕ)
+module _ (s s' : Reading) (end : ℕ) (t v o a b r f l : List ℕ) (fs : List (List ℕ)) (h : s.lines < 2 ^ 32) (step : Result ℕ Unstored) (b' l' : List ℕ)
     (e : both step b' l' ≡ block_store s.entries s.counts.blocks fs b l) (es : s' ≡ advance_of s 5 end step) where
   pub took_block_lem : settled (state_of s' (lent t v o a b' r f l' no_counts)) ≡ take_line (state_of s (lent t v o a b r f l no_counts)) end fs block
   unfolding block_store
@@ -254,10 +255,10 @@ module _ (s s' : Reading) (end : ℕ) (t v o a b r f l : List ℕ) (fs : List (L
       small w q = let m = ltb-true s.counts.blocks 512 (both_true (ltb s.counts.blocks 512) (leb (s.entries + length (w.arguments ++ w.operations)) 8192) q) in omega arith
 
       room : (T : Bool) (w : BlockRow) → block_line fs ≡ says w → ltb s.counts.blocks 512 && leb (s.entries + length (w.arguments ++ w.operations)) 8192 ≡ T
-          → both step b' l' ≡ cond T (both (Taken (s.entries + length (w.arguments ++ w.operations))) (sets b (s.counts.blocks * 4) (block_cells s.entries w)) (sets l s.entries (block_numbers fs))) (both Full b (sets l s.entries (block_numbers fs)))
+          → both step b' l' ≡ cond T (both (Ok (s.entries + length (w.arguments ++ w.operations))) (sets b (s.counts.blocks * 4) (block_cells s.entries w)) (sets l s.entries (block_numbers fs))) (both (Err Full) b (sets l s.entries (block_numbers fs)))
           → settled (state_of s' x') ≡ or_size T 5 s.counts.blocks (state_of s x) (taken (state_of s x) 4 end (length (w.arguments ++ w.operations)) (lent t v o a (sets b (s.counts.blocks * 4) (block_cells s.entries w)) r f (sets l s.entries (w.arguments ++ w.operations)) (counts s.counts.types s.counts.values s.counts.operations s.counts.attributes (suc s.counts.blocks) s.counts.regions s.counts.functions)))
       room true w p q d =
-          let st : step ≡ Taken (s.entries + length (w.arguments ++ w.operations)) = ap (λ (y : Both). y.answer) d in
+          let st : step ≡ Ok (s.entries + length (w.arguments ++ w.operations)) = ap (λ (y : Both). y.answer) d in
           let tb : b' ≡ sets b (s.counts.blocks * 4) (block_cells s.entries w) = ap (λ (y : Both). y.table) d in
           let lb : l' ≡ sets l s.entries (w.arguments ++ w.operations) = ap (λ (y : Both). y.entries) d ∙ ap (sets l s.entries) (block_says fs w p) in
           settled_taken s s' x x' 5 end (s.entries + length (w.arguments ++ w.operations)) (length (w.arguments ++ w.operations)) (counts s.counts.types s.counts.values s.counts.operations s.counts.attributes (suc s.counts.blocks) s.counts.regions s.counts.functions) (es ∙ ap (advance_of s 5 end) st) h refl
@@ -265,17 +266,17 @@ module _ (s s' : Reading) (end : ℕ) (t v o a b r f l : List ℕ) (fs : List (L
           ∙ ap (λ (y : List ℕ). taken (state_of s x) 4 end (length (w.arguments ++ w.operations)) (lent t v o a y r f l' (counts s.counts.types s.counts.values s.counts.operations s.counts.attributes (suc s.counts.blocks) s.counts.regions s.counts.functions))) tb
           ∙ ap (λ (y : List ℕ). taken (state_of s x) 4 end (length (w.arguments ++ w.operations)) (lent t v o a (sets b (s.counts.blocks * 4) (block_cells s.entries w)) r f y (counts s.counts.types s.counts.values s.counts.operations s.counts.attributes (suc s.counts.blocks) s.counts.regions s.counts.functions))) lb
       room false w p q d =
-          let st : step ≡ Full = ap (λ (y : Both). y.answer) d in
+          let st : step ≡ Err Full = ap (λ (y : Both). y.answer) d in
           settled_full s s' x x' 5 end (es ∙ ap (advance_of s 5 end) st) (long (ap (λ (y : Both). length y.table) d) (ap (λ (y : Both). length y.entries) d ∙ length-sets l s.entries (block_numbers fs)))
 
       by : (y : Read BlockRow) → block_line fs ≡ y → both step b' l' ≡ block_row s.entries s.counts.blocks y b (sets l s.entries (block_numbers fs)) → settled (state_of s' x') ≡ read (state_of s x) y (take_block (state_of s x) end)
       by (bad k) p d =
-          let st : step ≡ Bad k = ap (λ (y : Both). y.answer) d in
+          let st : step ≡ Err (Bad k) = ap (λ (y : Both). y.answer) d in
           settled_bad s s' x x' 5 end k (es ∙ ap (advance_of s 5 end) st) h (long (ap (λ (y : Both). length y.table) d) (ap (λ (y : Both). length y.entries) d ∙ length-sets l s.entries (block_numbers fs)))
       by (says w) p d = room (ltb s.counts.blocks 512 && leb (s.entries + length (w.arguments ++ w.operations)) 8192) w p refl d
 
 -- ---- `O`
-module _ (s s' : Reading) (end : ℕ) (t v o a b r f l : List ℕ) (fs : List (List ℕ)) (h : s.lines < 2 ^ 32) (ha : s.counts.attributes < 2 ^ 32) (step : Step) (o' l' : List ℕ)
+module _ (s s' : Reading) (end : ℕ) (t v o a b r f l : List ℕ) (fs : List (List ℕ)) (h : s.lines < 2 ^ 32) (ha : s.counts.attributes < 2 ^ 32) (step : Result ℕ Unstored) (o' l' : List ℕ)
     (e : both step o' l' ≡ operation_store s.entries s.counts.operations s.counts.attributes fs o l) (es : s' ≡ advance_of s 3 end step) where
   pub took_operation_lem : settled (state_of s' (lent t v o' a b r f l' no_counts)) ≡ take_line (state_of s (lent t v o a b r f l no_counts)) end fs operation
   unfolding operation_store
@@ -294,10 +295,10 @@ module _ (s s' : Reading) (end : ℕ) (t v o a b r f l : List ℕ) (fs : List (L
       small w q = let m = ltb-true s.counts.operations 2048 (both_true (ltb s.counts.operations 2048) (leb (s.entries + length (w.results ++ w.operands ++ w.regions)) 8192) q) in omega arith
 
       room : (T : Bool) (w : OperationRow) → operation_line fs ≡ says w → ltb s.counts.operations 2048 && leb (s.entries + length (w.results ++ w.operands ++ w.regions)) 8192 ≡ T
-          → both step o' l' ≡ cond T (both (Taken (s.entries + length (w.results ++ w.operands ++ w.regions))) (sets o (s.counts.operations * 16) (operation_cells s.entries (s.counts.attributes % 2 ^ 32) w)) (sets l s.entries (operation_numbers fs))) (both Full o (sets l s.entries (operation_numbers fs)))
+          → both step o' l' ≡ cond T (both (Ok (s.entries + length (w.results ++ w.operands ++ w.regions))) (sets o (s.counts.operations * 16) (operation_cells s.entries (s.counts.attributes % 2 ^ 32) w)) (sets l s.entries (operation_numbers fs))) (both (Err Full) o (sets l s.entries (operation_numbers fs)))
           → settled (state_of s' x') ≡ or_size T 3 s.counts.operations (state_of s x) (taken (state_of s x) 3 end (length (w.results ++ w.operands ++ w.regions)) (lent t v (sets o (s.counts.operations * 16) (operation_cells s.entries s.counts.attributes w)) a b r f (sets l s.entries (w.results ++ w.operands ++ w.regions)) (counts s.counts.types s.counts.values (suc s.counts.operations) s.counts.attributes s.counts.blocks s.counts.regions s.counts.functions)))
       room true w p q d =
-          let st : step ≡ Taken (s.entries + length (w.results ++ w.operands ++ w.regions)) = ap (λ (y : Both). y.answer) d in
+          let st : step ≡ Ok (s.entries + length (w.results ++ w.operands ++ w.regions)) = ap (λ (y : Both). y.answer) d in
           let tb : o' ≡ sets o (s.counts.operations * 16) (operation_cells s.entries s.counts.attributes w) = ap (λ (y : Both). y.table) d ∙ ap (λ (i : ℕ). sets o (s.counts.operations * 16) (operation_cells s.entries i w)) (mod-eq_of_lt ha) in
           let lb : l' ≡ sets l s.entries (w.results ++ w.operands ++ w.regions) = ap (λ (y : Both). y.entries) d ∙ ap (sets l s.entries) (operation_says fs w p) in
           settled_taken s s' x x' 3 end (s.entries + length (w.results ++ w.operands ++ w.regions)) (length (w.results ++ w.operands ++ w.regions)) (counts s.counts.types s.counts.values (suc s.counts.operations) s.counts.attributes s.counts.blocks s.counts.regions s.counts.functions) (es ∙ ap (advance_of s 3 end) st) h refl
@@ -305,17 +306,17 @@ module _ (s s' : Reading) (end : ℕ) (t v o a b r f l : List ℕ) (fs : List (L
           ∙ ap (λ (y : List ℕ). taken (state_of s x) 3 end (length (w.results ++ w.operands ++ w.regions)) (lent t v y a b r f l' (counts s.counts.types s.counts.values (suc s.counts.operations) s.counts.attributes s.counts.blocks s.counts.regions s.counts.functions))) tb
           ∙ ap (λ (y : List ℕ). taken (state_of s x) 3 end (length (w.results ++ w.operands ++ w.regions)) (lent t v (sets o (s.counts.operations * 16) (operation_cells s.entries s.counts.attributes w)) a b r f y (counts s.counts.types s.counts.values (suc s.counts.operations) s.counts.attributes s.counts.blocks s.counts.regions s.counts.functions))) lb
       room false w p q d =
-          let st : step ≡ Full = ap (λ (y : Both). y.answer) d in
+          let st : step ≡ Err Full = ap (λ (y : Both). y.answer) d in
           settled_full s s' x x' 3 end (es ∙ ap (advance_of s 3 end) st) (long (ap (λ (y : Both). length y.table) d) (ap (λ (y : Both). length y.entries) d ∙ length-sets l s.entries (operation_numbers fs)))
 
       by : (y : Read OperationRow) → operation_line fs ≡ y → both step o' l' ≡ operation_row s.entries s.counts.operations s.counts.attributes y o (sets l s.entries (operation_numbers fs)) → settled (state_of s' x') ≡ read (state_of s x) y (take_operation (state_of s x) end)
       by (bad k) p d =
-          let st : step ≡ Bad k = ap (λ (y : Both). y.answer) d in
+          let st : step ≡ Err (Bad k) = ap (λ (y : Both). y.answer) d in
           settled_bad s s' x x' 3 end k (es ∙ ap (advance_of s 3 end) st) h (long (ap (λ (y : Both). length y.table) d) (ap (λ (y : Both). length y.entries) d ∙ length-sets l s.entries (operation_numbers fs)))
       by (says w) p d = room (ltb s.counts.operations 2048 && leb (s.entries + length (w.results ++ w.operands ++ w.regions)) 8192) w p refl d
 
 -- ---- `A`
-module _ (s s' : Reading) (end : ℕ) (t v o a b r f l : List ℕ) (fs : List (List ℕ)) (h : s.lines < 2 ^ 32) (step : Step) (o' a' l' : List ℕ) (eo : o' ≡ set o ((s.counts.operations - 1) * 16 + 8) ((get_or o ((s.counts.operations - 1) * 16 + 8) 0 + 1) % 2 ^ 32))
+module _ (s s' : Reading) (end : ℕ) (t v o a b r f l : List ℕ) (fs : List (List ℕ)) (h : s.lines < 2 ^ 32) (step : Result ℕ Unstored) (o' a' l' : List ℕ) (eo : o' ≡ set o ((s.counts.operations - 1) * 16 + 8) ((get_or o ((s.counts.operations - 1) * 16 + 8) 0 + 1) % 2 ^ 32))
     (e : both step a' l' ≡ attribute_store s.entries s.counts.attributes fs a l) (es : s' ≡ advance_of s 4 end step) where
   pub took_attribute_lem : settled (state_of s' (lent t v o' a' b r f l' no_counts)) ≡ take_line (state_of s (lent t v o a b r f l no_counts)) end fs attribute
   unfolding attribute_store
@@ -334,10 +335,10 @@ module _ (s s' : Reading) (end : ℕ) (t v o a b r f l : List ℕ) (fs : List (L
       small w q = let m = ltb-true s.counts.attributes 4096 (both_true (ltb s.counts.attributes 4096) (leb (s.entries + length w.numbers) 8192) q) in omega arith
 
       room : (T : Bool) (w : AttributeRow) → attribute_line fs ≡ says w → ltb s.counts.attributes 4096 && leb (s.entries + length w.numbers) 8192 ≡ T
-          → both step a' l' ≡ cond T (both (Taken (s.entries + length w.numbers)) (sets a (s.counts.attributes * 8) (attribute_cells s.entries w)) (sets l s.entries (attribute_numbers fs))) (both Full a (sets l s.entries (attribute_numbers fs)))
+          → both step a' l' ≡ cond T (both (Ok (s.entries + length w.numbers)) (sets a (s.counts.attributes * 8) (attribute_cells s.entries w)) (sets l s.entries (attribute_numbers fs))) (both (Err Full) a (sets l s.entries (attribute_numbers fs)))
           → settled (state_of s' x') ≡ or_size T 4 s.counts.attributes (state_of s x) (taken (state_of s x) 3 end (length w.numbers) (lent t v (one_attribute_more o ((s.counts.operations - 1) * 16 + 8)) (sets a (s.counts.attributes * 8) (attribute_cells s.entries w)) b r f (sets l s.entries w.numbers) (counts s.counts.types s.counts.values s.counts.operations (suc s.counts.attributes) s.counts.blocks s.counts.regions s.counts.functions)))
       room true w p q d =
-          let st : step ≡ Taken (s.entries + length w.numbers) = ap (λ (y : Both). y.answer) d in
+          let st : step ≡ Ok (s.entries + length w.numbers) = ap (λ (y : Both). y.answer) d in
           let tb : a' ≡ sets a (s.counts.attributes * 8) (attribute_cells s.entries w) = ap (λ (y : Both). y.table) d in
           let ob : o' ≡ one_attribute_more o ((s.counts.operations - 1) * 16 + 8) = eo in
           let lb : l' ≡ sets l s.entries w.numbers = ap (λ (y : Both). y.entries) d ∙ ap (sets l s.entries) (attribute_says fs w p).numbers in
@@ -347,12 +348,12 @@ module _ (s s' : Reading) (end : ℕ) (t v o a b r f l : List ℕ) (fs : List (L
           ∙ ap (λ (y : List ℕ). taken (state_of s x) 3 end (length w.numbers) (lent t v (one_attribute_more o ((s.counts.operations - 1) * 16 + 8)) y b r f l' (counts s.counts.types s.counts.values s.counts.operations (suc s.counts.attributes) s.counts.blocks s.counts.regions s.counts.functions))) tb
           ∙ ap (λ (y : List ℕ). taken (state_of s x) 3 end (length w.numbers) (lent t v (one_attribute_more o ((s.counts.operations - 1) * 16 + 8)) (sets a (s.counts.attributes * 8) (attribute_cells s.entries w)) b r f y (counts s.counts.types s.counts.values s.counts.operations (suc s.counts.attributes) s.counts.blocks s.counts.regions s.counts.functions))) lb
       room false w p q d =
-          let st : step ≡ Full = ap (λ (y : Both). y.answer) d in
+          let st : step ≡ Err Full = ap (λ (y : Both). y.answer) d in
           settled_full s s' x x' 4 end (es ∙ ap (advance_of s 4 end) st) (long (ap length eo ∙ simp length-set) (ap (λ (y : Both). length y.table) d) (ap (λ (y : Both). length y.entries) d ∙ length-sets l s.entries (attribute_numbers fs)))
 
       by : (y : Read AttributeRow) → attribute_line fs ≡ y → both step a' l' ≡ attribute_row s.entries s.counts.attributes y a (sets l s.entries (attribute_numbers fs)) → settled (state_of s' x') ≡ read (state_of s x) y (take_attribute (state_of s x) end)
       by (bad k) p d =
-          let st : step ≡ Bad k = ap (λ (y : Both). y.answer) d in
+          let st : step ≡ Err (Bad k) = ap (λ (y : Both). y.answer) d in
           settled_bad s s' x x' 4 end k (es ∙ ap (advance_of s 4 end) st) h (long (ap length eo ∙ simp length-set) (ap (λ (y : Both). length y.table) d) (ap (λ (y : Both). length y.entries) d ∙ length-sets l s.entries (attribute_numbers fs)))
       by (says w) p d = room (ltb s.counts.attributes 4096 && leb (s.entries + length w.numbers) 8192) w p refl d
 
@@ -481,13 +482,13 @@ module _ (s : Reading) (x : Tables) (line : List ℕ) (far : Bool)
       unfolding kind_of
       near_kind K h l = sym (to_kind (state_of s x) end (split 9 line) s.phase (tag_of (nth 0 (split 9 line))) K (sym ek ∙ h) l) ∙ placed_is
 
-      pub near_out : (s' : Reading) → kind ≡ 8 → s' ≡ advance_of s 8 end (Bad 0) → settled (state_of s' x) ≡ judged (state_of s x) line
+      pub near_out : (s' : Reading) → kind ≡ 8 → s' ≡ advance_of s 8 end (Err (Bad 0)) → settled (state_of s' x) ≡ judged (state_of s x) line
       unfolding kind_of
       near_out s' h e =
           settled_bad s s' x x 8 end 0 e lines_small refl
           ∙ sym (to_out (state_of s x) end (split 9 line) s.phase (tag_of (nth 0 (split 9 line))) (sym ek ∙ h)) ∙ placed_is
 
-      pub near_unknown : (s' : Reading) → kind ≡ 9 → s' ≡ advance_of s 9 end (Bad 1) → settled (state_of s' x) ≡ judged (state_of s x) line
+      pub near_unknown : (s' : Reading) → kind ≡ 9 → s' ≡ advance_of s 9 end (Err (Bad 1)) → settled (state_of s' x) ≡ judged (state_of s x) line
       unfolding kind_of
       near_unknown s' h e =
           settled_bad s s' x x 9 end 1 e lines_small refl

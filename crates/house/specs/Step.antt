@@ -1,5 +1,5 @@
 -- How the reader takes a line in steps: the kind of a line as a number, and the reading that follows.
-use Rattle.std.specs.Prelude.{ℕ, suc, ◌-◌, Bool, ◌&&◌, cond, List, eqb, ltb, length, Ok, Err}
+use Rattle.std.specs.Prelude.{ℕ, suc, ◌-◌, Bool, ◌&&◌, cond, List, eqb, ltb, length, Result, Ok, Err}
 use Rattle.fields.specs.Cut.{nth}
 use Rattle.lines.specs.Field.{Read, says, bad}
 use Rattle.lines.specs.Line.{HeaderRow}
@@ -8,8 +8,8 @@ use Rattle.tables.specs.Tables.{Tables, lent}
 use Rattle.tables.specs.Answer.{Answer}
 use Rattle.tables.specs.declared.Refusal.{Refusal}
 use Rattle.tables.specs.declared.Refusal.TheVariants.{OutOfRange, NotInForm}
-use Rattle.stores.specs.declared.Step.{Step}
-use Rattle.stores.specs.declared.Step.TheVariants.{Taken, Bad, Full}
+use Rattle.stores.specs.declared.Unstored.{Unstored}
+use Rattle.stores.specs.declared.Unstored.TheVariants.{Bad, Full}
 use Rattle.house.specs.State.{State}
 use Rattle.house.specs.House.{no_counts, state, refuse, counts, Tag, header, type, value, operation, attribute, block, region, function, unknown, tag_of, fields_of, in_order}
 use Rattle.house.specs.declared.Reading.{Reading}
@@ -81,10 +81,10 @@ counted n k =
 abbrev pub phase_of : ℕ → ℕ
 phase_of k = cond (ltb k 4) k (k - 1)
 
-unfoldable pub advance_of : Reading → ℕ → ℕ → Step → Reading
-advance_of s k end (Bad field) = refusing (NotInForm (next s.lines) field)
-advance_of s k end Full = refusing (OutOfRange k (count_of s.counts k))
-advance_of s k end (Taken entries) =
+unfoldable pub advance_of : Reading → ℕ → ℕ → Result ℕ Unstored → Reading
+advance_of s k end (Err (Bad field)) = refusing (NotInForm (next s.lines) field)
+advance_of s k end (Err Full) = refusing (OutOfRange k (count_of s.counts k))
+advance_of s k end (Ok entries) =
     record {
       phase = phase_of k;
       lines = next s.lines;

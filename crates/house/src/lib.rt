@@ -9,8 +9,7 @@ ghost use Rattle.tables.specs.Tables.{lent};
 ghost use Rattle.house.specs.House.{no_counts, tag_of, fields_of, in_order, judged, line_of};
 ghost use Rattle.house.specs.Step.{tag_number, tag_at, kind_of, next, refusing, count_of, bump, counted, phase_of, advance_of, header_next, state_of, settled};
 
-use lines::HeaderLine;
-use stores::Step;
+use stores::Unstored;
 use tables::{Answer, Counts, Refusal};
 
 // Where a reader stands, beside the tables: the phase, the lines and bytes before this line, the list entries in use, the header, the counts
@@ -210,20 +209,20 @@ fn kind_of(line: &[u8], phase: u64) -> u64
 }
 
 // The reading after a line of a table was stored.
-fn advance(s: Reading, kind: u64, end: u64, step: Step) -> Reading
+fn advance(s: Reading, kind: u64, end: u64, step: Result<u64, Unstored>) -> Reading
     ensures { result ≡ advance_of s kind end step }
 {
     let n = s.counts;
     match step {
-        Step::Bad(field) => refusing(Refusal::NotInForm {
+        Err(Unstored::Bad(field)) => refusing(Refusal::NotInForm {
             line: next(s.lines),
             field,
         }),
-        Step::Full => refusing(Refusal::OutOfRange {
+        Err(Unstored::Full) => refusing(Refusal::OutOfRange {
             table: kind,
             entry: count_of(n, kind),
         }),
-        Step::Taken(entries) => Reading {
+        Ok(entries) => Reading {
             phase: phase_of(kind),
             lines: next(s.lines),
             bytes: end,
@@ -242,17 +241,17 @@ fn header_next(line: &[u8], s: Reading, end: u64) -> Reading
     let w = lines::header_line(line);
     let n = s.counts;
     match w {
-        HeaderLine::Bad(field) => refusing(Refusal::NotInForm {
+        Err(bad) => refusing(Refusal::NotInForm {
             line: next(s.lines),
-            field,
+            field: bad.field,
         }),
-        HeaderLine::Row { version, sm } => Reading {
+        Ok(header) => Reading {
             phase: 1,
             lines: next(s.lines),
             bytes: end,
             entries: s.entries,
-            version,
-            sm,
+            version: header.version,
+            sm: header.sm,
             counts: n,
             answer: Ok(()),
         },
@@ -300,10 +299,10 @@ fn next_reading(
     let end = bytes + len + 1;
     let kind = kind_of(line, s.phase);
     if kind == 9 {
-        return advance(s, 9, end, Step::Bad(1));
+        return advance(s, 9, end, Err(Unstored::Bad(1)));
     }
     if kind == 8 {
-        return advance(s, 8, end, Step::Bad(0));
+        return advance(s, 8, end, Err(Unstored::Bad(0)));
     }
     if kind == 1 {
         let step = stores::store_type(line, at, n.types, t);

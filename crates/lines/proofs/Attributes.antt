@@ -1,8 +1,8 @@
 -- Lines `A`: the ways through the functions that read a form, a number that may be absent, and the list of each form.
+use Rattle.std.specs.Prelude.{Option, Some, None}
 use Prim.Native.Nat.{ℕ, suc, ◌+◌, ◌-◌, ◌^◌, ◌≤◌, ◌<◌, min}
 use mathlib.Core.Bool.{Bool, true, false, cond, ◌&&◌}
 use mathlib.Core.List.{List, [], ◌∷◌}
-use mathlib.Core.Option.{Option, some, none}
 use mathlib.Core.Path.{◌≡◌, refl, sym, ◌∙◌, ap}
 use native.Mathlib.Omega.{arith}
 use lib.Dec.{ltb}
@@ -11,15 +11,11 @@ use lib.Seq.{sets}
 use borrow.Author.Tests.{eq-eqb, ne_eqb, lt-ltb, le-ltb}
 use Rattle.fields.specs.Number.{unsigned_of, signed_of}
 use Rattle.fields.specs.Cut.{split, nth}
-use Rattle.fields.specs.declared.Number.{Number}
-use Rattle.fields.specs.declared.Number.TheVariants.{Is, Bad}
 use Rattle.names.specs.Names.{number_of}
 use Rattle.lines.specs.Field.{bad, integer64, list_of, Maybe, here, absent, wrong, or_absent}
 use Rattle.lines.specs.Line.{Numbers, value_in, missing_bit, is_wrong, single, whole, divisor_numbers, endpoint_numbers, three, two, nothing, numbers_of, form_of, with_numbers, named, attribute_line}
 use Rattle.lines.specs.Into.{Left, left, list_into}
 use Rattle.lines.specs.Answer.{slot_of, filled_of, held_into, whole_into, numbers_written, numbers_into, attribute_of, if_named, attribute_numbers, attribute_into}
-use Rattle.lines.specs.declared.Listed.{Listed}
-use Rattle.lines.specs.declared.Listed.TheVariants.{Count, Bad as BadList}
 use Rattle.lines.specs.declared.Slot.{Slot}
 use Rattle.lines.specs.declared.Filled.{Filled}
 use Rattle.lines.specs.declared.Filled.TheVariants.{Held, Bad as BadFilled}
@@ -62,12 +58,12 @@ module _ (bit : ℕ) where
   slot_none [] h = refl
   slot_none (b ∷ bs) h = absurd (omega arith)
 
-  pub slot_wrong : (s : List ℕ) (a : Number) → (length s ≡ 0 → ⊥) → a ≡ signed_of (2 ^ 63) s → a ≡ Bad
+  pub slot_wrong : (s : List ℕ) (a : Option ℕ) → (length s ≡ 0 → ⊥) → a ≡ signed_of (2 ^ 63) s → a ≡ None
       → slot true 0 0 ≡ slot_of bit (or_absent integer64 s)
   slot_wrong [] a h e k = absurd (h refl)
   slot_wrong (b ∷ bs) a h e k = rw (← e, k)
 
-  pub slot_here : (s : List ℕ) (a : Number) (n : ℕ) → (length s ≡ 0 → ⊥) → a ≡ signed_of (2 ^ 63) s → a ≡ Is n
+  pub slot_here : (s : List ℕ) (a : Option ℕ) (n : ℕ) → (length s ≡ 0 → ⊥) → a ≡ signed_of (2 ^ 63) s → a ≡ Some n
       → slot false n 0 ≡ slot_of bit (or_absent integer64 s)
   slot_here [] a n h e k = absurd (h refl)
   slot_here (b ∷ bs) a n h e k = rw (← e, k)
@@ -81,22 +77,22 @@ pub slot_le : (bit : ℕ) (x : Slot) (s : List ℕ) → x ≡ slot_of bit (or_ab
 slot_le bit x s e = let q = ap (λ (y : Slot). y.missing) e in omega (arith, missing_le bit (or_absent integer64 s))
 
 -- ---- one number
-module _ (at : ℕ) (a v : Number) (l : List ℕ) (e : a ≡ v) where
-  pub single_bad : a ≡ Bad → left BadFilled l ≡ held_into at (single v) l
+module _ (at : ℕ) (a v : Option ℕ) (l : List ℕ) (e : a ≡ v) where
+  pub single_bad : a ≡ None → left BadFilled l ≡ held_into at (single v) l
   unfolding held_into
   single_bad k = rw (← e, k)
 
-  pub single_held : (n : ℕ) (w : List ℕ) → a ≡ Is n → w ≡ set l at n → left (Held 1 0) w ≡ held_into at (single v) l
+  pub single_held : (n : ℕ) (w : List ℕ) → a ≡ Some n → w ≡ set l at n → left (Held 1 0) w ≡ held_into at (single v) l
   unfolding held_into
   single_held n w k q = rw (← e, k, q)
 
 -- ---- a list
-module _ (f : List ℕ → Number) (at : ℕ) (s l : List ℕ) (r : Listed) (w : List ℕ) (e : left r w ≡ list_into f at s l) where
-  pub whole_bad : r ≡ BadList → left BadFilled w ≡ whole_into f at s l
+module _ (f : List ℕ → Option ℕ) (at : ℕ) (s l : List ℕ) (r : Option ℕ) (w : List ℕ) (e : left r w ≡ list_into f at s l) where
+  pub whole_bad : r ≡ None → left BadFilled w ≡ whole_into f at s l
   unfolding whole_into
   whole_bad k = both _ _ _ _ (rw (read_none f at s l r w e k)) (read_written f at s l r w e)
 
-  pub whole_held : (n : ℕ) → r ≡ Count n → left (Held n 0) w ≡ whole_into f at s l
+  pub whole_held : (n : ℕ) → r ≡ Some n → left (Held n 0) w ≡ whole_into f at s l
   unfolding whole_into
   whole_held n k =
       let h = read_some f at s l r w e n k in
@@ -126,23 +122,23 @@ module _ (at : ℕ) (s l : List ℕ) (n : ℕ) (en : n ≡ length (split 44 s)) 
   unfolding held_into
   divisor_count h = rw (ne_eqb (length (split 44 s)) 3 (λ k. h (en ∙ k)))
 
-  module _ (h : n ≡ 3) (a : Number) (p : List ℕ) (ea : a ≡ unsigned_of (2 ^ 64 - 1) p) (ep : p ≡ nth 0 (split 44 s)) where
+  module _ (h : n ≡ 3) (a : Option ℕ) (p : List ℕ) (ea : a ≡ unsigned_of (2 ^ 64 - 1) p) (ep : p ≡ nth 0 (split 44 s)) where
     divisor_of : held_into at (divisor_numbers a (or_absent integer64 (nth 1 (split 44 s))) (or_absent integer64 (nth 2 (split 44 s)))) l
         ≡ held_into at (three (split 44 s)) l
     divisor_of = rw (eq-eqb (length (split 44 s)) 3 (sym en ∙ h), ea, ep)
 
-    pub divisor_bad : a ≡ Bad → left BadFilled l ≡ held_into at (three (split 44 s)) l
+    pub divisor_bad : a ≡ None → left BadFilled l ≡ held_into at (three (split 44 s)) l
     unfolding held_into
     divisor_bad k =
-        ap (λ (x : Number). held_into at (divisor_numbers x (or_absent integer64 (nth 1 (split 44 s))) (or_absent integer64 (nth 2 (split 44 s)))) l) (sym k)
+        ap (λ (x : Option ℕ). held_into at (divisor_numbers x (or_absent integer64 (nth 1 (split 44 s))) (or_absent integer64 (nth 2 (split 44 s)))) l) (sym k)
         ∙ divisor_of
 
-    module _ (d : ℕ) (ka : a ≡ Is d) (every : Slot) (q : List ℕ) (ee : every ≡ slot_of 2 (or_absent integer64 q)) (eq : q ≡ nth 1 (split 44 s)) where
+    module _ (d : ℕ) (ka : a ≡ Some d) (every : Slot) (q : List ℕ) (ee : every ≡ slot_of 2 (or_absent integer64 q)) (eq : q ≡ nth 1 (split 44 s)) where
       every_of : every ≡ slot_of 2 (or_absent integer64 (nth 1 (split 44 s)))
       every_of = ee ∙ ap (λ (x : List ℕ). slot_of 2 (or_absent integer64 x)) eq
 
       rest_of : (m m' : Maybe) → or_absent integer64 (nth 1 (split 44 s)) ≡ m → or_absent integer64 (nth 2 (split 44 s)) ≡ m'
-          → held_into at (divisor_numbers (Is d) m m') l ≡ held_into at (three (split 44 s)) l
+          → held_into at (divisor_numbers (Some d) m m') l ≡ held_into at (three (split 44 s)) l
       rest_of m m' hm hm' = sym (rw (ka, hm, hm')) ∙ divisor_of
 
       pub divisor_every : every.wrong ≡ true → left BadFilled l ≡ held_into at (three (split 44 s)) l
@@ -150,7 +146,7 @@ module _ (at : ℕ) (s l : List ℕ) (n : ℕ) (en : n ≡ length (split 44 s)) 
       divisor_every k = by (or_absent integer64 (nth 1 (split 44 s))) (ap (λ (x : Slot). x.wrong) (sym every_of) ∙ k) ∙ rest_of _ _ refl refl
         where
           by : (m : Maybe) → is_wrong m ≡ true
-              → left BadFilled l ≡ held_into at (divisor_numbers (Is d) m (or_absent integer64 (nth 2 (split 44 s)))) l
+              → left BadFilled l ≡ held_into at (divisor_numbers (Some d) m (or_absent integer64 (nth 2 (split 44 s)))) l
           by m t = rw t
 
       module _ (no_every : every.wrong ≡ false) (along : Slot) (o : List ℕ) (eo : along ≡ slot_of 4 (or_absent integer64 o)) (eq' : o ≡ nth 2 (split 44 s)) where
@@ -164,7 +160,7 @@ module _ (at : ℕ) (s l : List ℕ) (n : ℕ) (en : n ≡ length (split 44 s)) 
             (ap (λ (x : Slot). x.wrong) (sym every_of) ∙ no_every) (ap (λ (x : Slot). x.wrong) (sym along_of) ∙ k)
             ∙ rest_of _ _ refl refl
           where
-            by : (m m' : Maybe) → is_wrong m ≡ false → is_wrong m' ≡ true → left BadFilled l ≡ held_into at (divisor_numbers (Is d) m m') l
+            by : (m m' : Maybe) → is_wrong m ≡ false → is_wrong m' ≡ true → left BadFilled l ≡ held_into at (divisor_numbers (Some d) m m') l
             by m m' t t' = rw (t, t')
 
         pub divisor_held : along.wrong ≡ false → (start : ℕ) (w w' w'' : List ℕ) → start ≡ min at (length l) → w ≡ set l start d
@@ -180,7 +176,7 @@ module _ (at : ℕ) (s l : List ℕ) (n : ℕ) (en : n ≡ length (split 44 s)) 
             ∙ rest_of _ _ refl refl
           where
             by : (m m' : Maybe) → is_wrong m ≡ false → is_wrong m' ≡ false
-                → left (Held 3 (missing_bit 2 m + missing_bit 4 m')) (sets l at (d ∷ value_in m ∷ value_in m' ∷ [])) ≡ held_into at (divisor_numbers (Is d) m m') l
+                → left (Held 3 (missing_bit 2 m + missing_bit 4 m')) (sets l at (d ∷ value_in m ∷ value_in m' ∷ [])) ≡ held_into at (divisor_numbers (Some d) m m') l
             by m m' t t' = rw (t, t')
 
 -- ---- `r`
@@ -305,8 +301,8 @@ module _ (fs : List (List ℕ)) (at : ℕ) (l name : List ℕ) (en : name ≡ nt
           ∙ sym (rw (lt-ltb form 9 k)) ∙ named_of
         where
           by : (o : Option Numbers) → attribute_filled (number_of name) form (filled_of o) ≡ attribute_of (with_numbers (number_of name) form o)
-          by none = refl
-          by (some n) = refl
+          by None = refl
+          by (Some n) = refl
 
       pub attribute_bad : a ≡ BadFilled → left (BadAttribute 4) w ≡ attribute_into at fs l
       attribute_bad q = ap (λ (x : Filled). left (attribute_filled (number_of name) form x) w) (sym q) ∙ attribute_lists

@@ -1,8 +1,8 @@
 -- Lists read into the entries: a run of writes from a place on, and that the loop over the items gives the list and writes its numbers.
+use Rattle.std.specs.Prelude.{Option, Some, None}
 use Prim.Native.Nat.{ℕ, suc, ◌+◌, ◌≤◌, ◌<◌, min}
 use mathlib.Core.List.{List, [], ◌∷◌, ◌++◌}
 use mathlib.Core.Logic.{⊎_elim}
-use mathlib.Core.Option.{Option, some, none}
 use mathlib.Core.Path.{◌≡◌, refl, sym, ◌∙◌, ap}
 use native.Mathlib.Omega.{arith}
 use lib.ListN.{length, drop, set}
@@ -11,13 +11,8 @@ use Rattle.cells.proofs.Rows.{lt_or_ge}
 use Rattle.fields.specs.Cut.{end_from, split}
 use Rattle.fields.specs.Taken.{part_from, taken}
 use Rattle.fields.specs.declared.Taken.{Taken}
-use Rattle.fields.specs.declared.Taken.TheVariants.{Number as Took, Bad as BadPart}
 use Rattle.fields.proofs.Parts.{split_cons, end_ge}
 use Rattle.fields.proofs.Takes.{taken_bad, taken_is}
-use Rattle.fields.specs.declared.Number.{Number}
-use Rattle.fields.specs.declared.Number.TheVariants.{Is, Bad}
-use Rattle.lines.specs.declared.Listed.{Listed}
-use Rattle.lines.specs.declared.Listed.TheVariants.{Count, Bad as BadList}
 use Rattle.lines.specs.Field.{ahead, items, list_of}
 use Rattle.lines.specs.Into.{onto, good_items, good_of, count_of, Left, left, list_into}
 use Rattle.lines.proofs.Moving.{from_last, from_more}
@@ -47,17 +42,17 @@ sets_append l i (x ∷ xs) ys =
 -- ---- a list, and its numbers up to the first bad one
 
 -- what is read is what is written
-items_good : (f : List ℕ → Number) (ss : List (List ℕ)) (xs : List ℕ) → items f ss ≡ some xs → good_items f ss ≡ xs
+items_good : (f : List ℕ → Option ℕ) (ss : List (List ℕ)) (xs : List ℕ) → items f ss ≡ Some xs → good_items f ss ≡ xs
 items_good f [] xs e = cc
 items_good f (s ∷ ss) xs e = by (f s) (items f ss) refl e (λ ys q. items_good f ss ys q)
   where
-    by : (n : Number) (o : Option (List ℕ)) → items f ss ≡ o → ahead n o ≡ some xs
-        → ((ys : List ℕ) → items f ss ≡ some ys → good_items f ss ≡ ys) → onto n (good_items f ss) ≡ xs
-    by Bad o q h ih = let z : ◌≡◌ {A = ℕ} 0 1 = cc in absurd (omega arith)
-    by (Is n) none q h ih = let z : ◌≡◌ {A = ℕ} 0 1 = cc in absurd (omega arith)
-    by (Is n) (some ys) q h ih = let same : n ∷ ys ≡ xs = cc in ap (λ (zs : List ℕ). n ∷ zs) (ih ys q) ∙ same
+    by : (n : Option ℕ) (o : Option (List ℕ)) → items f ss ≡ o → ahead n o ≡ Some xs
+        → ((ys : List ℕ) → items f ss ≡ Some ys → good_items f ss ≡ ys) → onto n (good_items f ss) ≡ xs
+    by None o q h ih = let z : ◌≡◌ {A = ℕ} 0 1 = cc in absurd (omega arith)
+    by (Some n) None q h ih = let z : ◌≡◌ {A = ℕ} 0 1 = cc in absurd (omega arith)
+    by (Some n) (Some ys) q h ih = let same : n ∷ ys ≡ xs = cc in ap (λ (zs : List ℕ). n ∷ zs) (ih ys q) ∙ same
 
-pub list_good : (f : List ℕ → Number) (s xs : List ℕ) → list_of f s ≡ some xs → good_of f s ≡ xs
+pub list_good : (f : List ℕ → Option ℕ) (s xs : List ℕ) → list_of f s ≡ Some xs → good_of f s ≡ xs
 unfolding list_of good_of
 list_good f [] xs e = cc
 list_good f (b ∷ bs) xs e = items_good f (split 44 (b ∷ bs)) xs e
@@ -65,47 +60,47 @@ list_good f (b ∷ bs) xs e = items_good f (split 44 (b ∷ bs)) xs e
 -- ---- the loop over the items
 
 -- an item: its number goes to its place and the rest follows, a bad one ends all
-abbrev pub on_item : Number → List ℕ → (ℕ → Left Listed) → Left Listed
-on_item Bad l next = left BadList l
-on_item (Is x) l next = next x
+abbrev pub on_item : Option ℕ → List ℕ → (ℕ → Left (Option ℕ)) → Left (Option ℕ)
+on_item None l next = left None l
+on_item (Some x) l next = next x
 
 -- from the item n on
-unfoldable pub run : (List ℕ → Number) → ℕ → List (List ℕ) → ℕ → List ℕ → Left Listed
-run f start [] n l = left (Count n) l
+unfoldable pub run : (List ℕ → Option ℕ) → ℕ → List (List ℕ) → ℕ → List ℕ → Left (Option ℕ)
+run f start [] n l = left (Some n) l
 run f start (s ∷ ss) n l = on_item (f s) l (λ x. run f start ss (n + 1) (set l (start + n) x))
 
-abbrev count_from : ℕ → Option (List ℕ) → Listed
-count_from n none = BadList
-count_from n (some xs) = Count (n + length xs)
+abbrev count_from : ℕ → Option (List ℕ) → Option ℕ
+count_from n None = None
+count_from n (Some xs) = Some (n + length xs)
 
-run_is : (f : List ℕ → Number) (start : ℕ) (ss : List (List ℕ)) (n : ℕ) (l : List ℕ)
+run_is : (f : List ℕ → Option ℕ) (start : ℕ) (ss : List (List ℕ)) (n : ℕ) (l : List ℕ)
     → run f start ss n l ≡ left (count_from n (items f ss)) (sets l (start + n) (good_items f ss))
 unfolding run
-run_is f start [] n l = let e : n ≡ n + 0 = omega arith in ap (λ (k : ℕ). left (Count k) l) e
+run_is f start [] n l = let e : n ≡ n + 0 = omega arith in ap (λ (k : ℕ). left (Some k) l) e
 run_is f start (s ∷ ss) n l = by (f s) (λ x. run_is f start ss (n + 1) (set l (start + n) x))
   where
     one : (x : ℕ) (o : Option (List ℕ)) → left (count_from (n + 1) o) (sets (set l (start + n) x) (start + (n + 1)) (good_items f ss))
-        ≡ left (count_from n (ahead (Is x) o)) (sets l (start + n) (x ∷ good_items f ss))
-    one x none = let e : start + (n + 1) ≡ suc (start + n) = omega arith in rw e
-    one x (some xs) =
+        ≡ left (count_from n (ahead (Some x) o)) (sets l (start + n) (x ∷ good_items f ss))
+    one x None = let e : start + (n + 1) ≡ suc (start + n) = omega arith in rw e
+    one x (Some xs) =
         let e : start + (n + 1) ≡ suc (start + n) = omega arith in
         let k : n + 1 + length xs ≡ n + suc (length xs) = omega arith in
         rw (e, k)
 
-    by : (v : Number) → ((x : ℕ) → run f start ss (n + 1) (set l (start + n) x)
+    by : (v : Option ℕ) → ((x : ℕ) → run f start ss (n + 1) (set l (start + n) x)
         ≡ left (count_from (n + 1) (items f ss)) (sets (set l (start + n) x) (start + (n + 1)) (good_items f ss)))
         → on_item v l (λ x. run f start ss (n + 1) (set l (start + n) x))
         ≡ left (count_from n (ahead v (items f ss))) (sets l (start + n) (onto v (good_items f ss)))
-    by Bad ih = refl
-    by (Is x) ih = ih x ∙ one x (items f ss)
+    by None ih = refl
+    by (Some x) ih = ih x ∙ one x (items f ss)
 
 -- ---- the ways through `list_into`
-module _ (f : List ℕ → Number) (at : ℕ) (s l : List ℕ) where
-  pub list_none : length s ≡ 0 → left (Count 0) l ≡ list_into f at s l
+module _ (f : List ℕ → Option ℕ) (at : ℕ) (s l : List ℕ) where
+  pub list_none : length s ≡ 0 → left (Some 0) l ≡ list_into f at s l
   unfolding list_into list_of good_of
   list_none h = by s h
     where
-      by : (s : List ℕ) → length s ≡ 0 → left (Count 0) l ≡ left (count_of (list_of f s)) (sets l at (good_of f s))
+      by : (s : List ℕ) → length s ≡ 0 → left (Some 0) l ≡ left (count_of (list_of f s)) (sets l at (good_of f s))
       by [] h = refl
       by (b ∷ bs) h = absurd (omega arith)
 
@@ -114,8 +109,8 @@ module _ (f : List ℕ → Number) (at : ℕ) (s l : List ℕ) where
   list_some h = run_is f (min at (length l)) (split 44 s) 0 l ∙ by s h
     where
       from_none : (o : Option (List ℕ)) → count_from 0 o ≡ count_of o
-      from_none none = refl
-      from_none (some xs) = let e : 0 + length xs ≡ length xs = omega arith in ap Count e
+      from_none None = refl
+      from_none (Some xs) = let e : 0 + length xs ≡ length xs = omega arith in ap Some e
 
       by : (s : List ℕ) → (length s ≡ 0 → ⊥)
           → left (count_from 0 (items f (split 44 s))) (sets l (min at (length l) + 0) (good_items f (split 44 s)))
@@ -125,36 +120,36 @@ module _ (f : List ℕ → Number) (at : ℕ) (s l : List ℕ) where
           let e : min at (length l) + 0 ≡ min at (length l) = omega arith in
           rw (e, sets_min l at (good_items f (split 44 (b ∷ bs))), from_none (items f (split 44 (b ∷ bs))))
 
-module _ (f : List ℕ → Number) (start : ℕ) (s : List ℕ) (ss : List (List ℕ)) (n : ℕ) (l : List ℕ) where
-  item_is : (x : ℕ) → f s ≡ Is x → run f start (s ∷ ss) n l ≡ run f start ss (n + 1) (set l (start + n) x)
+module _ (f : List ℕ → Option ℕ) (start : ℕ) (s : List ℕ) (ss : List (List ℕ)) (n : ℕ) (l : List ℕ) where
+  item_is : (x : ℕ) → f s ≡ Some x → run f start (s ∷ ss) n l ≡ run f start ss (n + 1) (set l (start + n) x)
   unfolding run
   item_is x k = rw k
 
-  item_bad : f s ≡ Bad → run f start (s ∷ ss) n l ≡ left BadList l
+  item_bad : f s ≡ None → run f start (s ∷ ss) n l ≡ left None l
   unfolding run
   item_bad k = rw k
 
-run_end : (f : List ℕ → Number) (start n : ℕ) (l : List ℕ) → run f start [] n l ≡ left (Count n) l
+run_end : (f : List ℕ → Option ℕ) (start n : ℕ) (l : List ℕ) → run f start [] n l ≡ left (Some n) l
 unfolding run
 run_end f start n l = refl
 
 -- the item at the cursor p
-module _ (f : List ℕ → Number) (start p n : ℕ) (s l : List ℕ) (h : p ≤ length s) (r : Taken)
+module _ (f : List ℕ → Option ℕ) (start p n : ℕ) (s l : List ℕ) (h : p ≤ length s) (r : Option Taken)
     (e : r ≡ taken (f (part_from 44 p s)) (end_from 44 p s + 1)) where
-  pub list_stops : r ≡ BadPart → left BadList l ≡ run f start (split 44 (drop p s)) n l
+  pub list_stops : r ≡ None → left None l ≡ run f start (split 44 (drop p s)) n l
   list_stops k =
       let q = split_cons 44 (drop p s) in
       sym (ap (λ (ss : List (List ℕ)). run f start ss n l) q.1
       ∙ item_bad f start (part_from 44 p s) q.0 n l (taken_bad (f (part_from 44 p s)) (end_from 44 p s + 1) (sym e ∙ k)))
 
-  module _ (x q : ℕ) (k : r ≡ Took x q) where
-    item_taken : (f (part_from 44 p s) ≡ Is x) × (q ≡ end_from 44 p s + 1)
+  module _ (x q : ℕ) (k : r ≡ took x q) where
+    item_taken : (f (part_from 44 p s) ≡ Some x) × (q ≡ end_from 44 p s + 1)
     item_taken = taken_is (f (part_from 44 p s)) (end_from 44 p s + 1) x q (sym e ∙ k)
 
     pub list_on : p < q
     list_on = omega (arith, item_taken.1, end_ge 44 p (end_from 44 p s) s h refl)
 
-    pub list_ends : length s < q → left (Count (n + 1)) (set l (start + n) x) ≡ run f start (split 44 (drop p s)) n l
+    pub list_ends : length s < q → left (Some (n + 1)) (set l (start + n) x) ≡ run f start (split 44 (drop p s)) n l
     list_ends o =
         sym (ap (λ (ss : List (List ℕ)). run f start ss n l) (from_last 44 p s h (omega (arith, item_taken.1)))
         ∙ item_is f start (part_from 44 p s) [] n l x item_taken.0 ∙ run_end f start (n + 1) (set l (start + n) x))
@@ -166,23 +161,23 @@ module _ (f : List ℕ → Number) (start p n : ℕ) (s l : List ℕ) (h : p ≤
         ∙ item_is f start (part_from 44 p s) (split 44 (drop (end_from 44 p s + 1) s)) n l x item_taken.0)
 
 -- ---- what the answer says: a count of the numbers read, which are those written; or that there is no such list
-module _ (f : List ℕ → Number) (at : ℕ) (s l w : List ℕ) where
-  pub list_count : (n : ℕ) → left (Count n) w ≡ list_into f at s l
-      → (xs : List ℕ) × ((list_of f s ≡ some xs) × (length xs ≡ n) × (w ≡ sets l at xs))
+module _ (f : List ℕ → Option ℕ) (at : ℕ) (s l w : List ℕ) where
+  pub list_count : (n : ℕ) → left (Some n) w ≡ list_into f at s l
+      → (xs : List ℕ) × ((list_of f s ≡ Some xs) × (length xs ≡ n) × (w ≡ sets l at xs))
   unfolding list_into
-  list_count n e = by (list_of f s) refl (ap (λ (x : Left Listed). x.answer) e)
+  list_count n e = by (list_of f s) refl (ap (λ (x : Left (Option ℕ)). x.answer) e)
     where
-      by : (o : Option (List ℕ)) → list_of f s ≡ o → Count n ≡ count_of o
-          → (xs : List ℕ) × ((list_of f s ≡ some xs) × (length xs ≡ n) × (w ≡ sets l at xs))
-      by none q h = let z : ◌≡◌ {A = ℕ} 0 1 = cc in absurd (omega arith)
-      by (some xs) q h =
+      by : (o : Option (List ℕ)) → list_of f s ≡ o → Some n ≡ count_of o
+          → (xs : List ℕ) × ((list_of f s ≡ Some xs) × (length xs ≡ n) × (w ≡ sets l at xs))
+      by None q h = let z : ◌≡◌ {A = ℕ} 0 1 = cc in absurd (omega arith)
+      by (Some xs) q h =
           let same : length xs ≡ n = cc in
-          (xs, (q, same, ap (λ (x : Left Listed). x.entries) e ∙ ap (sets l at) (list_good f s xs q)))
+          (xs, (q, same, ap (λ (x : Left (Option ℕ)). x.entries) e ∙ ap (sets l at) (list_good f s xs q)))
 
-  pub list_bad : left BadList w ≡ list_into f at s l → list_of f s ≡ none
+  pub list_bad : left None w ≡ list_into f at s l → list_of f s ≡ None
   unfolding list_into
-  list_bad e = by (list_of f s) (ap (λ (x : Left Listed). x.answer) e)
+  list_bad e = by (list_of f s) (ap (λ (x : Left (Option ℕ)). x.answer) e)
     where
-      by : (o : Option (List ℕ)) → BadList ≡ count_of o → o ≡ none
-      by none h = refl
-      by (some xs) h = let z : ◌≡◌ {A = ℕ} 0 1 = cc in absurd (omega arith)
+      by : (o : Option (List ℕ)) → None ≡ count_of o → o ≡ None
+      by None h = refl
+      by (Some xs) h = let z : ◌≡◌ {A = ℕ} 0 1 = cc in absurd (omega arith)

@@ -1,4 +1,5 @@
 -- The fields of a line found one after the other: the place where a field starts, and what stands there.
+use Rattle.std.specs.Prelude.{Option, Some, None}
 use Prim.Native.Nat.{ℕ, zero, suc, ◌+◌, ◌-◌, ◌≤◌, ◌<◌}
 use mathlib.Core.List.{List, [], ◌∷◌}
 use mathlib.Core.Logic.{⊎_elim}
@@ -10,10 +11,7 @@ use Rattle.cells.proofs.Rows.{lt_or_ge}
 use Rattle.fields.specs.Cut.{until, end_from, split, nth}
 use Rattle.fields.specs.Number.{unsigned_of, signed_of}
 use Rattle.fields.specs.Taken.{part_from, taken, unsigned_from, signed_from}
-use Rattle.fields.specs.declared.Number.{Number}
-use Rattle.fields.specs.declared.Number.TheVariants.{Is, Bad}
 use Rattle.fields.specs.declared.Taken.{Taken}
-use Rattle.fields.specs.declared.Taken.TheVariants.{Number as Took, Bad as BadPart}
 use Rattle.fields.proofs.Parts.{split_cons, end_le, part_is, at_last, at_more, until_end}
 use Rattle.fields.proofs.Takes.{taken_bad, taken_is}
 
@@ -96,14 +94,14 @@ module _ (s : List ℕ) (k p : ℕ) (at : Starts s k p) where
       f ∙ ap (λ (i : ℕ). take i (drop p s)) n ∙ slice_part 9 p s ∙ sym field_there
 
   -- a field that was taken as a number
-  module _ (f : List ℕ → Number) (r : Taken) (e : r ≡ taken (f (part_from 9 p s)) (end_from 9 p s + 1)) where
-    pub number_bad : r ≡ BadPart → f (nth k (split 9 s)) ≡ Bad
+  module _ (f : List ℕ → Option ℕ) (r : Option Taken) (e : r ≡ taken (f (part_from 9 p s)) (end_from 9 p s + 1)) where
+    pub number_bad : r ≡ None → f (nth k (split 9 s)) ≡ None
     number_bad h = ap f field_there ∙ taken_bad (f (part_from 9 p s)) (end_from 9 p s + 1) (sym e ∙ h)
 
-    pub number_is : (n q : ℕ) → r ≡ Took n q → f (nth k (split 9 s)) ≡ Is n
+    pub number_is : (n q : ℕ) → r ≡ took n q → f (nth k (split 9 s)) ≡ Some n
     number_is n q h = ap f field_there ∙ (taken_is (f (part_from 9 p s)) (end_from 9 p s + 1) n q (sym e ∙ h)).0
 
-    pub number_next : (n q : ℕ) → r ≡ Took n q → Starts s (k + 1) q
+    pub number_next : (n q : ℕ) → r ≡ took n q → Starts s (k + 1) q
     number_next n q h = next_starts q (taken_is (f (part_from 9 p s)) (end_from 9 p s + 1) n q (sym e ∙ h)).1
 
 -- after the tag

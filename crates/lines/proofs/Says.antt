@@ -1,16 +1,14 @@
 -- A line that reads: what it leaves in the entries is its lists, and what goes into a cell of 32 bits fits there.
+use Rattle.std.specs.Prelude.{Option, Some, None}
 use Prim.Native.Nat.{ℕ, suc, ◌+◌, ◌-◌, ◌^◌, ◌≤◌, ◌<◌}
 use mathlib.Core.Bool.{Bool, true, false, cond}
 use mathlib.Core.List.{List, [], ◌∷◌, ◌++◌, append-nil, append_assoc}
-use mathlib.Core.Option.{Option, some, none}
 use mathlib.Core.Path.{◌≡◌, refl, sym, ◌∙◌, ap}
 use native.Mathlib.Omega.{arith}
 use lib.Dec.{eqb, ltb}
 use lib.ListN.{length}
 use borrow.Author.Tests.{ltb-true}
 use Rattle.fields.specs.Cut.{split, nth}
-use Rattle.fields.specs.declared.Number.{Number}
-use Rattle.fields.specs.declared.Number.TheVariants.{Is, Bad}
 use Rattle.fields.proofs.Laws.{unsigned_is}
 use Rattle.names.specs.Names.{names, number_from, number_of, equal, integer_form, bool_form, integers_form, bools_form, permutation_form, divisor_form, sizes_form, endpoints_form}
 use Rattle.lines.specs.Field.{says, bad, number, list, one_of, id32, unsigned64, integer32, integer64, list_of, Maybe, or_absent}
@@ -24,7 +22,7 @@ use Rattle.lines.proofs.Attributes.{missing_le}
 impossible {ℓ} : {X : Type ℓ} → ◌≡◌ {A = ℕ} 0 1 → X
 impossible e = absurd (omega arith)
 
-two_lists : (f : List ℕ → Number) (p q xs ys : List ℕ) → list_of f p ≡ some xs → list_of f q ≡ some ys → good_lists f (p ∷ q ∷ []) ≡ xs ++ ys
+two_lists : (f : List ℕ → Option ℕ) (p q xs ys : List ℕ) → list_of f p ≡ Some xs → list_of f q ≡ Some ys → good_lists f (p ∷ q ∷ []) ≡ xs ++ ys
 two_lists f p q xs ys hp hq =
     sym (lists_next f p (q ∷ []) xs hp) ∙ ap (λ (zs : List ℕ). xs ++ zs) (sym (lists_next f q [] ys hq) ∙ append-nil ys)
 
@@ -38,15 +36,15 @@ module _ (fs : List (List ℕ)) (w : OperationRow) where
       row : ℕ → List ℕ → List ℕ → List ℕ → OperationRow
       row op xs ys zs = record { opcode = op; results = xs; operands = ys; regions = zs }
 
-      by : (a : Number) (o o' o'' : Option (List ℕ)) → one_of 105 (nth 1 fs) ≡ a → list_of id32 (nth 2 fs) ≡ o → list_of id32 (nth 3 fs) ≡ o'
+      by : (a : Option ℕ) (o o' o'' : Option (List ℕ)) → one_of 105 (nth 1 fs) ≡ a → list_of id32 (nth 2 fs) ≡ o → list_of id32 (nth 3 fs) ≡ o'
           → list_of id32 (nth 4 fs) ≡ o''
           → number 2 a (λ op. list 3 o (λ xs. list 4 o' (λ ys. list 5 o'' (λ zs. says (row op xs ys zs))))) ≡ says w
           → (if_number a (good_lists id32 (nth 2 fs ∷ nth 3 fs ∷ nth 4 fs ∷ [])) ≡ w.results ++ w.operands ++ w.regions) × (w.opcode ≤ 104)
-      by Bad o o' o'' qa q q' q'' h = impossible (cc)
-      by (Is op) none o' o'' qa q q' q'' h = impossible (cc)
-      by (Is op) (some xs) none o'' qa q q' q'' h = impossible (cc)
-      by (Is op) (some xs) (some ys) none qa q q' q'' h = impossible (cc)
-      by (Is op) (some xs) (some ys) (some zs) qa q q' q'' h =
+      by None o o' o'' qa q q' q'' h = impossible (cc)
+      by (Some op) None o' o'' qa q q' q'' h = impossible (cc)
+      by (Some op) (Some xs) None o'' qa q q' q'' h = impossible (cc)
+      by (Some op) (Some xs) (Some ys) None qa q q' q'' h = impossible (cc)
+      by (Some op) (Some xs) (Some ys) (Some zs) qa q q' q'' h =
           let same : row op xs ys zs ≡ w = cc in
           let lists : good_lists id32 (nth 2 fs ∷ nth 3 fs ∷ nth 4 fs ∷ []) ≡ xs ++ ys ++ zs
           = sym (lists_next id32 (nth 2 fs) (nth 3 fs ∷ nth 4 fs ∷ []) xs q)
@@ -72,9 +70,9 @@ block_says fs w e = by (list_of id32 (nth 1 fs)) (list_of id32 (nth 2 fs)) refl 
 
     by : (o o' : Option (List ℕ)) → list_of id32 (nth 1 fs) ≡ o → list_of id32 (nth 2 fs) ≡ o'
         → list 2 o (λ xs. list 3 o' (λ ys. says (row xs ys))) ≡ says w → good_lists id32 (nth 1 fs ∷ nth 2 fs ∷ []) ≡ w.arguments ++ w.operations
-    by none o' q q' h = impossible (cc)
-    by (some xs) none q q' h = impossible (cc)
-    by (some xs) (some ys) q q' h =
+    by None o' q q' h = impossible (cc)
+    by (Some xs) None q q' h = impossible (cc)
+    by (Some xs) (Some ys) q q' h =
         let same : row xs ys ≡ w = cc in
         two_lists id32 (nth 1 fs) (nth 2 fs) xs ys q q' ∙ ap (λ (v : BlockRow). v.arguments ++ v.operations) same
 
@@ -84,70 +82,70 @@ unfolding region_line region_numbers
 region_says fs blocks e = by (list_of id32 (nth 1 fs)) refl e
   where
     by : (o : Option (List ℕ)) → list_of id32 (nth 1 fs) ≡ o → list 2 o says ≡ says blocks → good_of id32 (nth 1 fs) ≡ blocks
-    by none q h = impossible (cc)
-    by (some xs) q h = let same : xs ≡ blocks = cc in list_good id32 (nth 1 fs) xs q ∙ same
+    by None q h = impossible (cc)
+    by (Some xs) q h = let same : xs ≡ blocks = cc in list_good id32 (nth 1 fs) xs q ∙ same
 
 -- ---- `F`
 pub function_small : (fs : List (List ℕ)) (i : ℕ) → function_line fs ≡ says i → i < 2 ^ 32
 unfolding function_line
 function_small fs i e = by (id32 (nth 1 fs)) refl e
   where
-    by : (a : Number) → id32 (nth 1 fs) ≡ a → number 2 a says ≡ says i → i < 2 ^ 32
-    by Bad q h = impossible (cc)
-    by (Is n) q h = let same : n ≡ i = cc in omega (arith, (unsigned_is (2 ^ 32 - 1) (nth 1 fs) n q).1)
+    by : (a : Option ℕ) → id32 (nth 1 fs) ≡ a → number 2 a says ≡ says i → i < 2 ^ 32
+    by None q h = impossible (cc)
+    by (Some n) q h = let same : n ≡ i = cc in omega (arith, (unsigned_is (2 ^ 32 - 1) (nth 1 fs) n q).1)
 
 -- ---- `A`
 
 -- a form's numbers, where they read, are those written; and no bit but the first three is set
 abbrev Fine : Option Numbers → List ℕ → Type 0
-Fine o xs = (n : Numbers) → o ≡ some n → (xs ≡ n.held) × (n.missing ≤ 6)
+Fine o xs = (n : Numbers) → o ≡ Some n → (xs ≡ n.held) × (n.missing ≤ 6)
 
-fine_single : (a : Number) → Fine (single a) (held_in (single a))
-fine_single Bad n e = impossible (cc)
-fine_single (Is v) n e = let same : held (v ∷ []) ≡ n = cc in (ap (λ (x : Numbers). x.held) same, omega (arith, ap (λ (x : Numbers). x.missing) same))
+fine_single : (a : Option ℕ) → Fine (single a) (held_in (single a))
+fine_single None n e = impossible (cc)
+fine_single (Some v) n e = let same : held (v ∷ []) ≡ n = cc in (ap (λ (x : Numbers). x.held) same, omega (arith, ap (λ (x : Numbers). x.missing) same))
 
-fine_whole : (f : List ℕ → Number) (s : List ℕ) → Fine (whole (list_of f s)) (good_of f s)
+fine_whole : (f : List ℕ → Option ℕ) (s : List ℕ) → Fine (whole (list_of f s)) (good_of f s)
 fine_whole f s n e = by (list_of f s) refl e
   where
-    by : (o : Option (List ℕ)) → list_of f s ≡ o → whole o ≡ some n → (good_of f s ≡ n.held) × (n.missing ≤ 6)
-    by none q h = impossible (cc)
-    by (some xs) q h =
+    by : (o : Option (List ℕ)) → list_of f s ≡ o → whole o ≡ Some n → (good_of f s ≡ n.held) × (n.missing ≤ 6)
+    by None q h = impossible (cc)
+    by (Some xs) q h =
         let same : held xs ≡ n = cc in
         (list_good f s xs q ∙ ap (λ (x : Numbers). x.held) same, omega (arith, ap (λ (x : Numbers). x.missing) same))
 
-fine_held : (o : Option Numbers) → ((n : Numbers) → o ≡ some n → n.missing ≤ 6) → Fine o (held_in o)
-fine_held none h n e = impossible (cc)
-fine_held (some m) h n e = let same : m ≡ n = cc in (ap (λ (x : Numbers). x.held) same, h n e)
+fine_held : (o : Option Numbers) → ((n : Numbers) → o ≡ Some n → n.missing ≤ 6) → Fine o (held_in o)
+fine_held None h n e = impossible (cc)
+fine_held (Some m) h n e = let same : m ≡ n = cc in (ap (λ (x : Numbers). x.held) same, h n e)
 
-three_bits : (a : Number) (m m' : Maybe) (n : Numbers) → divisor_numbers a m m' ≡ some n → n.missing ≤ 6
-three_bits Bad m m' n e = impossible (cc)
-three_bits (Is d) m m' n e = by (is_wrong m) (is_wrong m') e
+three_bits : (a : Option ℕ) (m m' : Maybe) (n : Numbers) → divisor_numbers a m m' ≡ Some n → n.missing ≤ 6
+three_bits None m m' n e = impossible (cc)
+three_bits (Some d) m m' n e = by (is_wrong m) (is_wrong m') e
   where
     row : Numbers
     row = record { held = d ∷ value_in m ∷ value_in m' ∷ []; missing = missing_bit 2 m + missing_bit 4 m' }
 
-    by : (t t' : Bool) → cond t none (cond t' none (some row)) ≡ some n → n.missing ≤ 6
+    by : (t t' : Bool) → cond t None (cond t' None (Some row)) ≡ Some n → n.missing ≤ 6
     by true t' h = impossible (cc)
     by false true h = impossible (cc)
     by false false h =
         let same : row ≡ n = cc in
         omega (arith, ap (λ (x : Numbers). x.missing) same, missing_le 2 m, missing_le 4 m')
 
-two_bits : (m m' : Maybe) (n : Numbers) → endpoint_numbers m m' ≡ some n → n.missing ≤ 6
+two_bits : (m m' : Maybe) (n : Numbers) → endpoint_numbers m m' ≡ Some n → n.missing ≤ 6
 two_bits m m' n e = by (is_wrong m) (is_wrong m') e
   where
     row : Numbers
     row = record { held = value_in m ∷ value_in m' ∷ []; missing = missing_bit 1 m + missing_bit 2 m' }
 
-    by : (t t' : Bool) → cond t none (cond t' none (some row)) ≡ some n → n.missing ≤ 6
+    by : (t t' : Bool) → cond t None (cond t' None (Some row)) ≡ Some n → n.missing ≤ 6
     by true t' h = impossible (cc)
     by false true h = impossible (cc)
     by false false h =
         let same : row ≡ n = cc in
         omega (arith, ap (λ (x : Numbers). x.missing) same, missing_le 1 m, missing_le 2 m')
 
-guarded : (t : Bool) (o : Option Numbers) → ((n : Numbers) → o ≡ some n → n.missing ≤ 6)
-    → (n : Numbers) → cond t o none ≡ some n → n.missing ≤ 6
+guarded : (t : Bool) (o : Option Numbers) → ((n : Numbers) → o ≡ Some n → n.missing ≤ 6)
+    → (n : Numbers) → cond t o None ≡ Some n → n.missing ≤ 6
 guarded true o h n e = h n e
 guarded false o h n e = impossible (cc)
 
@@ -206,8 +204,8 @@ attribute_says fs w e =
 
     filled : (name form : ℕ) (o : Option Numbers) (xs : List ℕ) → name ≤ 14 → form < 9 → Fine o xs → with_numbers name form o ≡ says w
         → (xs ≡ w.numbers) × (w.name ≤ 14) × (w.form < 9) × (w.missing ≤ 6)
-    filled name form none xs hn hf fine h = impossible (cc)
-    filled name form (some n) xs hn hf fine h =
+    filled name form None xs hn hf fine h = impossible (cc)
+    filled name form (Some n) xs hn hf fine h =
         let same : row name form n ≡ w = cc in
         let both = fine n refl in (
           both.0 ∙ ap (λ (v : AttributeRow). v.numbers) same,

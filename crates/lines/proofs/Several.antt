@@ -1,8 +1,8 @@
 -- Lines with several lists, which stand in the entries one after the other: the ways through `two_lists` and the lines `O`, `B`, `R`.
+use Rattle.std.specs.Prelude.{Option, Some, None}
 use Prim.Native.Nat.{ℕ, ◌+◌, ◌≤◌, min}
 use mathlib.Core.Bool.{Bool, true, false, cond}
 use mathlib.Core.List.{List, [], ◌∷◌, ◌++◌, append-nil}
-use mathlib.Core.Option.{Option, some, none}
 use mathlib.Core.Path.{◌≡◌, refl, sym, ◌∙◌, ap}
 use native.Mathlib.Omega.{arith}
 use lib.Dec.{eqb}
@@ -10,14 +10,10 @@ use lib.ListN.{length}
 use lib.Seq.{sets}
 use Rattle.fields.specs.Number.{unsigned_of}
 use Rattle.fields.specs.Cut.{split, on_first, nth}
-use Rattle.fields.specs.declared.Number.{Number}
-use Rattle.fields.specs.declared.Number.TheVariants.{Is, Bad}
 use Rattle.lines.specs.Field.{says, list, id32, list_of}
 use Rattle.lines.specs.Line.{operation_line, block_line, region_line}
 use Rattle.lines.specs.Into.{onto, good_items, good_of, Left, left, list_into}
 use Rattle.lines.specs.Answer.{if_read, good_lists, pair_of, pair_into, operation_of, operation_numbers, operation_into, block_of, block_numbers, block_into, region_of, region_numbers, region_into}
-use Rattle.lines.specs.declared.Listed.{Listed}
-use Rattle.lines.specs.declared.Listed.TheVariants.{Count, Bad as BadList}
 use Rattle.lines.specs.declared.Pair.{Pair}
 use Rattle.lines.specs.declared.Pair.TheVariants.{Counts, BadFirst, BadSecond}
 use Rattle.lines.specs.declared.OperationLine.{OperationLine}
@@ -39,40 +35,40 @@ parts_few b (x ∷ s) = by (eqb x b) (split b s) (parts_few b s)
     by false [] h = omega arith
     by false (p ∷ ps) h = omega arith
 
-items_few : (f : List ℕ → Number) (ss : List (List ℕ)) → length (good_items f ss) ≤ length ss
+items_few : (f : List ℕ → Option ℕ) (ss : List (List ℕ)) → length (good_items f ss) ≤ length ss
 items_few f [] = omega arith
 items_few f (s ∷ ss) = by (f s) (items_few f ss)
   where
-    by : (n : Number) → length (good_items f ss) ≤ length ss → length (onto n (good_items f ss)) ≤ length (s ∷ ss)
-    by Bad h = omega arith
-    by (Is n) h = omega arith
+    by : (n : Option ℕ) → length (good_items f ss) ≤ length ss → length (onto n (good_items f ss)) ≤ length (s ∷ ss)
+    by None h = omega arith
+    by (Some n) h = omega arith
 
-good_few : (f : List ℕ → Number) (s : List ℕ) → length (good_of f s) ≤ length s + 1
+good_few : (f : List ℕ → Option ℕ) (s : List ℕ) → length (good_of f s) ≤ length s + 1
 unfolding good_of
 good_few f [] = omega arith
 good_few f (b ∷ bs) = omega (arith, items_few f (split 44 (b ∷ bs)), parts_few 44 (b ∷ bs))
 
-pub count_few : (f : List ℕ → Number) (at : ℕ) (s l w : List ℕ) (r : Listed) (n : ℕ) → r ≡ Count n → left r w ≡ list_into f at s l → n ≤ length s + 1
+pub count_few : (f : List ℕ → Option ℕ) (at : ℕ) (s l w : List ℕ) (r : Option ℕ) (n : ℕ) → r ≡ Some n → left r w ≡ list_into f at s l → n ≤ length s + 1
 count_few f at s l w r n k e =
-    let h = list_count f at s l w n (ap (λ (x : Listed). left x w) (sym k) ∙ e) in
+    let h = list_count f at s l w n (ap (λ (x : Option ℕ). left x w) (sym k) ∙ e) in
     let few = good_few f s in
     let same : length (good_of f s) ≡ n = ap length (list_good f s h.0 h.1.0) ∙ h.1.1 in
     omega arith
 
 -- ---- what is written of lists one after the other
-module _ (f : List ℕ → Number) (p : List ℕ) (ps : List (List ℕ)) where
-  pub lists_first : list_of f p ≡ none → good_of f p ≡ good_lists f (p ∷ ps)
+module _ (f : List ℕ → Option ℕ) (p : List ℕ) (ps : List (List ℕ)) where
+  pub lists_first : list_of f p ≡ None → good_of f p ≡ good_lists f (p ∷ ps)
   lists_first e = rw e (sym (append-nil (good_of f p)))
 
-  pub lists_next : (xs : List ℕ) → list_of f p ≡ some xs → xs ++ good_lists f ps ≡ good_lists f (p ∷ ps)
+  pub lists_next : (xs : List ℕ) → list_of f p ≡ Some xs → xs ++ good_lists f ps ≡ good_lists f (p ∷ ps)
   lists_next xs e = rw (list_good f p xs e, e)
 
-lists_one : (f : List ℕ → Number) (p : List ℕ) → good_of f p ≡ good_lists f (p ∷ [])
+lists_one : (f : List ℕ → Option ℕ) (p : List ℕ) → good_of f p ≡ good_lists f (p ∷ [])
 lists_one f p = by (list_of f p)
   where
     by : (o : Option (List ℕ)) → good_of f p ≡ good_of f p ++ if_read o []
-    by none = sym (append-nil (good_of f p))
-    by (some xs) = sym (append-nil (good_of f p))
+    by None = sym (append-nil (good_of f p))
+    by (Some xs) = sym (append-nil (good_of f p))
 
 -- the place of the next list, where the entries end or the first list ends
 next_written : (at start n : ℕ) (l w w' xs ys : List ℕ) → start ≡ min at (length l) → w ≡ sets l start xs → length xs ≡ n
@@ -88,31 +84,31 @@ first_written : (at start : ℕ) (l w xs : List ℕ) → start ≡ min at (lengt
 first_written at start l w xs es e = e ∙ ap (λ (k : ℕ). sets l k xs) es ∙ sets_min l at xs
 
 -- ---- a list that was read, and one that was not
-module _ (f : List ℕ → Number) (at : ℕ) (s l : List ℕ) (r : Listed) (w : List ℕ) (e : left r w ≡ list_into f at s l) where
-  pub read_some : (n : ℕ) → r ≡ Count n → (xs : List ℕ) × ((list_of f s ≡ some xs) × (length xs ≡ n) × (w ≡ sets l at xs))
-  read_some n k = list_count f at s l w n (ap (λ (x : Listed). left x w) (sym k) ∙ e)
+module _ (f : List ℕ → Option ℕ) (at : ℕ) (s l : List ℕ) (r : Option ℕ) (w : List ℕ) (e : left r w ≡ list_into f at s l) where
+  pub read_some : (n : ℕ) → r ≡ Some n → (xs : List ℕ) × ((list_of f s ≡ Some xs) × (length xs ≡ n) × (w ≡ sets l at xs))
+  read_some n k = list_count f at s l w n (ap (λ (x : Option ℕ). left x w) (sym k) ∙ e)
 
-  pub read_none : r ≡ BadList → list_of f s ≡ none
-  read_none k = list_bad f at s l w (ap (λ (x : Listed). left x w) (sym k) ∙ e)
+  pub read_none : r ≡ None → list_of f s ≡ None
+  read_none k = list_bad f at s l w (ap (λ (x : Option ℕ). left x w) (sym k) ∙ e)
 
   pub read_written : w ≡ sets l at (good_of f s)
   unfolding list_into
-  read_written = ap (λ (x : Left Listed). x.entries) e
+  read_written = ap (λ (x : Left (Option ℕ)). x.entries) e
 
 -- an answer and the entries, each by its own equation
 pub both : {A : Type 0} (a a' : A) (l l' : List ℕ) → a ≡ a' → l ≡ l' → left a l ≡ left a' l'
 both a a' l l' e q = rw (e, q)
 
 -- ---- `two_lists`
-module _ (f : List ℕ → Number) (at start : ℕ) (p q l : List ℕ) (es : start ≡ min at (length l)) (r : Listed) (w : List ℕ)
+module _ (f : List ℕ → Option ℕ) (at start : ℕ) (p q l : List ℕ) (es : start ≡ min at (length l)) (r : Option ℕ) (w : List ℕ)
     (e : left r w ≡ list_into f start p l) where
-  pub pair_first : r ≡ BadList → left BadFirst w ≡ pair_into f at p q l
+  pub pair_first : r ≡ None → left BadFirst w ≡ pair_into f at p q l
   unfolding pair_into
   pair_first k =
       let h = read_none f start p l r w e k in
       both _ _ _ _ (rw h) (first_written at start l w (good_of f p) es (read_written f start p l r w e) ∙ ap (sets l at) (lists_first f p (q ∷ []) h))
 
-  module _ (n : ℕ) (k : r ≡ Count n) (r' : Listed) (w' : List ℕ) (e' : left r' w' ≡ list_into f (start + n) q w) where
+  module _ (n : ℕ) (k : r ≡ Some n) (r' : Option ℕ) (w' : List ℕ) (e' : left r' w' ≡ list_into f (start + n) q w) where
     pair_written : w' ≡ sets l at (good_lists f (p ∷ q ∷ []))
     pair_written =
         let h = read_some f start p l r w e n k in
@@ -120,13 +116,13 @@ module _ (f : List ℕ → Number) (at start : ℕ) (p q l : List ℕ) (es : sta
         (read_written f (start + n) q w r' w' e' ∙ ap (sets w (start + n)) (lists_one f q))
         ∙ ap (sets l at) (lists_next f p (q ∷ []) h.0 h.1.0)
 
-    pub pair_second : r' ≡ BadList → left BadSecond w' ≡ pair_into f at p q l
+    pub pair_second : r' ≡ None → left BadSecond w' ≡ pair_into f at p q l
     unfolding pair_into
     pair_second k' =
         let h = read_some f start p l r w e n k in
         both _ _ _ _ (rw (h.1.0, read_none f (start + n) q w r' w' e' k')) pair_written
 
-    pub pair_both : (m : ℕ) → r' ≡ Count m → left (Counts n m) w' ≡ pair_into f at p q l
+    pub pair_both : (m : ℕ) → r' ≡ Some m → left (Counts n m) w' ≡ pair_into f at p q l
     unfolding pair_into
     pair_both m k' =
         let h = read_some f start p l r w e n k in
@@ -154,9 +150,9 @@ module _ (fs : List (List ℕ)) (at : ℕ) (l p q : List ℕ) (ep : p ≡ nth 1 
     where
       by : (o o' : Option (List ℕ)) → left (block_pair (pair_of o o')) (sets l at (good_lists id32 (nth 1 fs ∷ nth 2 fs ∷ [])))
           ≡ left (block_of (list 2 o (λ xs. list 3 o' (λ ys. says (record { arguments = xs; operations = ys }))))) (sets l at (good_lists id32 (nth 1 fs ∷ nth 2 fs ∷ [])))
-      by none o' = refl
-      by (some xs) none = refl
-      by (some xs) (some ys) = refl
+      by None o' = refl
+      by (Some xs) None = refl
+      by (Some xs) (Some ys) = refl
 
   pub block_first : d ≡ BadFirst → left (BadBlock 2) w ≡ block_into at fs l
   block_first k = ap (λ (x : Pair). left (block_pair x) w) (sym k) ∙ block_lists
@@ -168,16 +164,16 @@ module _ (fs : List (List ℕ)) (at : ℕ) (l p q : List ℕ) (ep : p ≡ nth 1 
   block_row n m k = ap (λ (x : Pair). left (block_pair x) w) (sym k) ∙ block_lists
 
 -- ---- `R`
-module _ (fs : List (List ℕ)) (at : ℕ) (l p : List ℕ) (ep : p ≡ nth 1 fs) (r : Listed) (w : List ℕ) (e : left r w ≡ list_into id32 at p l) where
+module _ (fs : List (List ℕ)) (at : ℕ) (l p : List ℕ) (ep : p ≡ nth 1 fs) (r : Option ℕ) (w : List ℕ) (e : left r w ≡ list_into id32 at p l) where
   region_listed : left r w ≡ list_into id32 at (nth 1 fs) l
   region_listed = e ∙ ap (λ (x : List ℕ). list_into id32 at x l) ep
 
-  pub region_bad : r ≡ BadList → left (BadRegion 2) w ≡ region_into at fs l
+  pub region_bad : r ≡ None → left (BadRegion 2) w ≡ region_into at fs l
   unfolding region_into region_numbers region_line
   region_bad k =
       both _ _ _ _ (rw (read_none id32 at (nth 1 fs) l r w region_listed k)) (read_written id32 at (nth 1 fs) l r w region_listed)
 
-  pub region_row_lem : (n : ℕ) → r ≡ Count n → left (Region n) w ≡ region_into at fs l
+  pub region_row_lem : (n : ℕ) → r ≡ Some n → left (Region n) w ≡ region_into at fs l
   unfolding region_into region_numbers region_line
   region_row_lem n k =
       let h = read_some id32 at (nth 1 fs) l r w region_listed n k in
@@ -191,12 +187,12 @@ operation_pair op n BadFirst = BadOperation 4
 operation_pair op n BadSecond = BadOperation 5
 operation_pair op n (Counts m k) = Operation op n m k
 
-module _ (fs : List (List ℕ)) (at : ℕ) (l : List ℕ) (a : Number) (ea : a ≡ unsigned_of 104 (nth 1 fs)) where
-  pub operation_opcode : a ≡ Bad → left (BadOperation 2) l ≡ operation_into at fs l
+module _ (fs : List (List ℕ)) (at : ℕ) (l : List ℕ) (a : Option ℕ) (ea : a ≡ unsigned_of 104 (nth 1 fs)) where
+  pub operation_opcode : a ≡ None → left (BadOperation 2) l ≡ operation_into at fs l
   unfolding operation_into operation_numbers operation_line
   operation_opcode k = rw (← ea, k)
 
-  module _ (op : ℕ) (ka : a ≡ Is op) (start : ℕ) (es : start ≡ min at (length l)) (p : List ℕ) (ep : p ≡ nth 2 fs) (r : Listed) (w : List ℕ)
+  module _ (op : ℕ) (ka : a ≡ Some op) (start : ℕ) (es : start ≡ min at (length l)) (p : List ℕ) (ep : p ≡ nth 2 fs) (r : Option ℕ) (w : List ℕ)
       (e : left r w ≡ list_into id32 start p l) where
     operation_listed : left r w ≡ list_into id32 start (nth 2 fs) l
     operation_listed = e ∙ ap (λ (x : List ℕ). list_into id32 start x l) ep
@@ -205,7 +201,7 @@ module _ (fs : List (List ℕ)) (at : ℕ) (l : List ℕ) (a : Number) (ea : a �
     unfolding operation_numbers
     written = rw (← ea, ka)
 
-    pub operation_results : r ≡ BadList → left (BadOperation 3) w ≡ operation_into at fs l
+    pub operation_results : r ≡ None → left (BadOperation 3) w ≡ operation_into at fs l
     unfolding operation_into operation_line
     operation_results k =
         let h = read_none id32 start (nth 2 fs) l r w operation_listed k in
@@ -213,18 +209,18 @@ module _ (fs : List (List ℕ)) (at : ℕ) (l : List ℕ) (a : Number) (ea : a �
         (first_written at start l w (good_of id32 (nth 2 fs)) es (read_written id32 start (nth 2 fs) l r w operation_listed)
         ∙ ap (sets l at) (lists_first id32 (nth 2 fs) (nth 3 fs ∷ nth 4 fs ∷ []) h ∙ written))
 
-    module _ (n : ℕ) (k : r ≡ Count n) (q s : List ℕ) (eq : q ≡ nth 3 fs) (eo : s ≡ nth 4 fs) (d : Pair) (w' : List ℕ)
+    module _ (n : ℕ) (k : r ≡ Some n) (q s : List ℕ) (eq : q ≡ nth 3 fs) (eo : s ≡ nth 4 fs) (d : Pair) (w' : List ℕ)
         (e' : left d w' ≡ pair_into id32 (start + n) q s w) where
       rest_listed : left d w' ≡ pair_into id32 (start + n) (nth 3 fs) (nth 4 fs) w
       rest_listed =
           e' ∙ ap (λ (x : List ℕ). pair_into id32 (start + n) x s w) eq ∙ ap (λ (x : List ℕ). pair_into id32 (start + n) (nth 3 fs) x w) eo
 
-      row : (xs : List ℕ) (o o' : Option (List ℕ)) → list_of id32 (nth 2 fs) ≡ some xs → list_of id32 (nth 3 fs) ≡ o → list_of id32 (nth 4 fs) ≡ o'
+      row : (xs : List ℕ) (o o' : Option (List ℕ)) → list_of id32 (nth 2 fs) ≡ Some xs → list_of id32 (nth 3 fs) ≡ o → list_of id32 (nth 4 fs) ≡ o'
           → operation_pair op (length xs) (pair_of o o') ≡ operation_of (operation_line fs)
       unfolding operation_line
-      row xs none o' hx ho ho' = rw (← ea, ka, hx, ho)
-      row xs (some ys) none hx ho ho' = rw (← ea, ka, hx, ho, ho')
-      row xs (some ys) (some zs) hx ho ho' = rw (← ea, ka, hx, ho, ho')
+      row xs None o' hx ho ho' = rw (← ea, ka, hx, ho)
+      row xs (Some ys) None hx ho ho' = rw (← ea, ka, hx, ho, ho')
+      row xs (Some ys) (Some zs) hx ho ho' = rw (← ea, ka, hx, ho, ho')
 
       operation_lists : left (operation_pair op n d) w' ≡ operation_into at fs l
       unfolding operation_into pair_into

@@ -124,15 +124,11 @@ fn number_from(s: &[u8], place: u64, byte: u8, width: Width) -> Option<Taken>
 }
 
 // A row written from a place on, as far as the cells go.
-pub fn put_row<T: Copy>(cells: &mut [T], at: u64, row: &[T])
-    ensures { cells.new ≡ sets cells.old at row.now }
+pub fn put_row<T: Copy>(table: &mut [T], at: u64, row: &[T])
+    ensures { table.new ≡ sets table.old at row.now }
 {
-    let n = cells.len() as u64;
     for (i, &x) in row.iter().enumerate() {
-        let place = at.saturating_add(i as u64);
-        if place < n {
-            cells[place as usize] = x;
-        }
+        cells::put(table, at.saturating_add(i as u64), x);
     }
 }
 

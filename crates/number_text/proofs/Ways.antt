@@ -1,8 +1,8 @@
 -- One line: its tag, and the ways through the functions that judge it and write its numbers.
+use Rattle.std.specs.Prelude.{Option, Some, None}
 use Prim.Native.Nat.{ℕ, suc, ◌+◌, ◌≤◌, ◌<◌}
 use mathlib.Core.Bool.{Bool, true, false, ◌&&◌}
 use mathlib.Core.List.{List, [], ◌∷◌}
-use mathlib.Core.Option.{some}
 use mathlib.Core.Path.{◌≡◌, refl, sym, ◌∙◌, ap}
 use native.Mathlib.Omega.{arith}
 use native.Mathlib.Numerals.{add-one}
@@ -12,13 +12,9 @@ use lib.Seq.{sets, length-sets}
 use borrow.Author.Tests.{eq-eqb, ne_eqb, lt-ltb, le-ltb}
 use Rattle.names.specs.Names.{bytes, equal}
 use Rattle.fields.specs.Cut.{nth}
-use Rattle.fields.specs.declared.Number.{Number}
-use Rattle.fields.specs.declared.Number.TheVariants.{Is, Bad as BadNumber}
 use Rattle.tables.specs.declared.Refusal.TheVariants.{OutOfRange, NotInForm}
 use Rattle.lines.specs.Field.{Read as Says, says, bad, unsigned64, list_of}
 use Rattle.lines.specs.Into.{Left, left, good_of, list_into as field_into}
-use Rattle.lines.specs.declared.Listed.{Listed}
-use Rattle.lines.specs.declared.Listed.TheVariants.{Count, Bad as BadList}
 use Rattle.lines.proofs.Lists.{list_count, list_bad}
 use Rattle.number_text.specs.declared.Line.{Line}
 use Rattle.number_text.specs.declared.Line.TheVariants.{Numbers, Bad}
@@ -84,34 +80,34 @@ module _ (functions at : ℕ) (fs : List (List ℕ)) (l : List ℕ) (n : ℕ) (e
   unfolding list_line
   list_fields h = rw (← en, ne_eqb n 3 h)
 
-  module _ (h : n ≡ 3) (s : List ℕ) (es : s ≡ nth 1 fs) (a : Number) (ea : a ≡ unsigned64 s) where
-    pub list_position : a ≡ BadNumber → kept (Bad 202) l ≡ list_into at (list_line functions fs) l
+  module _ (h : n ≡ 3) (s : List ℕ) (es : s ≡ nth 1 fs) (a : Option ℕ) (ea : a ≡ unsigned64 s) where
+    pub list_position : a ≡ None → kept (Bad 202) l ≡ list_into at (list_line functions fs) l
     unfolding list_line
     list_position k = rw (← en, eq-eqb n 3 h, ← es, ← ea, k)
 
-    module _ (position : ℕ) (ka : a ≡ Is position) where
+    module _ (position : ℕ) (ka : a ≡ Some position) where
       pub list_order : (position ≡ functions → ⊥) → kept (Bad 200) l ≡ list_into at (list_line functions fs) l
       unfolding list_line
       list_order k = rw (← en, eq-eqb n 3 h, ← es, ← ea, ka, ne_eqb position functions k)
 
-      module _ (kp : position ≡ functions) (t : List ℕ) (et : t ≡ nth 2 fs) (b : Listed) (l' : List ℕ) (eb : left b l' ≡ field_into unsigned64 at t l) where
+      module _ (kp : position ≡ functions) (t : List ℕ) (et : t ≡ nth 2 fs) (b : Option ℕ) (l' : List ℕ) (eb : left b l' ≡ field_into unsigned64 at t l) where
         same_many : length l' ≡ length l
         unfolding field_into
-        same_many = ap (λ (x : Left Listed). length x.entries) eb ∙ length-sets l at (good_of unsigned64 t)
+        same_many = ap (λ (x : Left (Option ℕ)). length x.entries) eb ∙ length-sets l at (good_of unsigned64 t)
 
-        pub list_wrong : b ≡ BadList → kept (Bad 203) l' ≡ list_into at (list_line functions fs) l
+        pub list_wrong : b ≡ None → kept (Bad 203) l' ≡ list_into at (list_line functions fs) l
         unfolding list_line
         list_wrong k =
-            let no = list_bad unsigned64 at t l l' (ap (λ (x : Listed). left x l') (sym k) ∙ eb) in
+            let no = list_bad unsigned64 at t l l' (ap (λ (x : Option ℕ). left x l') (sym k) ∙ eb) in
             rw (← en, eq-eqb n 3 h, ← es, ← ea, ka, eq-eqb position functions kp, ← et, no, same_many)
 
-        pub list_row : (m : ℕ) → b ≡ Count m → kept (Numbers m) l' ≡ list_into at (list_line functions fs) l
+        pub list_row : (m : ℕ) → b ≡ Some m → kept (Numbers m) l' ≡ list_into at (list_line functions fs) l
         unfolding list_line
         list_row m k =
-            let is = list_count unsigned64 at t l l' m (ap (λ (x : Listed). left x l') (sym k) ∙ eb) in
+            let is = list_count unsigned64 at t l l' m (ap (λ (x : Option ℕ). left x l') (sym k) ∙ eb) in
             by is.0 (ap (list_of unsigned64) (sym et) ∙ is.1.0) is.1.1 is.1.2
           where
-            by : (xs : List ℕ) → list_of unsigned64 (nth 2 fs) ≡ some xs → length xs ≡ m → l' ≡ sets l at xs
+            by : (xs : List ℕ) → list_of unsigned64 (nth 2 fs) ≡ Some xs → length xs ≡ m → l' ≡ sets l at xs
                 → left (Numbers m) l' ≡ list_into at (list_line functions fs) l
             by xs q many e = rw (← en, eq-eqb n 3 h, ← es, ← ea, ka, eq-eqb position functions kp, q, ← many) (ap (left (Numbers (length xs))) e)
 

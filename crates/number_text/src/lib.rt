@@ -8,8 +8,7 @@ ghost use Rattle.lines.specs.Into.{left};
 ghost use Rattle.number_text.specs.Line.{ok_stands, list_line, kept, list_into};
 ghost use Rattle.number_text.specs.Text.{lines_of, fresh, ended, read_numbers, settled, outcome, counted_into, listed_into, taken_into, last_answer};
 
-use fields::Number;
-use lines::{Listed, Width};
+use lines::Width;
 use tables::Refusal;
 
 // The most bytes of such a text: room for every number at its widest.
@@ -70,7 +69,7 @@ fn list_line(line: &[u8], functions: u64, count: u64, numbers: &mut [u64]) -> Li
         return Line::Bad(200);
     }
     let a = fields::unsigned(fields::part(line, 9, 1), MAX_64);
-    let Number::Is(position) = a else {
+    let Some(position) = a else {
         return Line::Bad(202);
     };
     if position != functions {
@@ -78,7 +77,7 @@ fn list_line(line: &[u8], functions: u64, count: u64, numbers: &mut [u64]) -> Li
     }
     let list = fields::part(line, 9, 2);
     let b = lines::list_into(list, Width::Unsigned(MAX_64), count, numbers);
-    let Listed::Count(n) = b else {
+    let Some(n) = b else {
         return Line::Bad(203);
     };
     Line::Numbers(n)

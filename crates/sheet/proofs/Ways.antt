@@ -1,4 +1,5 @@
 -- One line: its tag, and the ways through the functions that judge it and store it.
+use Rattle.std.specs.Prelude.{Option, Some, None}
 use Prim.Native.Nat.{ℕ, ◌^◌, ◌≤◌, ◌<◌}
 use mathlib.Core.Bool.{Bool, true, false, ◌&&◌, cond}
 use mathlib.Core.List.{List, [], ◌∷◌}
@@ -10,8 +11,6 @@ use borrow.Author.Tests.{eq-eqb, ne_eqb, lt-ltb, le-ltb}
 use Rattle.names.specs.Names.{bytes, equal}
 use Rattle.fields.specs.Number.{unsigned_of, signed_of}
 use Rattle.fields.specs.Cut.{nth}
-use Rattle.fields.specs.declared.Number.{Number}
-use Rattle.fields.specs.declared.Number.TheVariants.{Is, Bad as BadNumber}
 use Rattle.lines.specs.Field.{Read, says, bad}
 use Rattle.lines.specs.Into.{left}
 use Rattle.sheet.specs.declared.Tag.{Tag}
@@ -117,12 +116,12 @@ module _ (last : ℕ) (fs : List (List ℕ)) (n : ℕ) (en : n ≡ length fs) wh
     unfolding sheet_line
     sheet_order k = rw (← en, eq-eqb n 2 h, ne_eqb last 0 k)
 
-    module _ (kl : last ≡ 0) (a : Number) (ea : a ≡ signed_of (2 ^ 63) (nth 1 fs)) where
-      pub sheet_none : a ≡ BadNumber → Bad 2 ≡ answer_of (sheet_line last fs)
+    module _ (kl : last ≡ 0) (a : Option ℕ) (ea : a ≡ signed_of (2 ^ 63) (nth 1 fs)) where
+      pub sheet_none : a ≡ None → Bad 2 ≡ answer_of (sheet_line last fs)
       unfolding sheet_line
       sheet_none k = rw (← en, eq-eqb n 2 h, eq-eqb last 0 kl, ← ea, k)
 
-      module _ (one : ℕ) (ka : a ≡ Is one) where
+      module _ (one : ℕ) (ka : a ≡ Some one) where
         pub sheet_other : (one ≡ 1 → ⊥) → Bad 2 ≡ answer_of (sheet_line last fs)
         unfolding sheet_line
         sheet_other k = rw (← en, eq-eqb n 2 h, eq-eqb last 0 kl, ← ea, ka, ne_eqb one 1 k)
@@ -132,7 +131,7 @@ module _ (last : ℕ) (fs : List (List ℕ)) (n : ℕ) (en : n ≡ length fs) wh
         sheet_row k = rw (← en, eq-eqb n 2 h, eq-eqb last 0 kl, ← ea, ka, eq-eqb one 1 k)
 
 -- ---- `c`, `m`, `p`, `w`
-module _ (kind : ℕ) (key_of value_of : List ℕ → Number) (last key : ℕ) (fs : List (List ℕ)) (n : ℕ) (en : n ≡ length fs) where
+module _ (kind : ℕ) (key_of value_of : List ℕ → Option ℕ) (last key : ℕ) (fs : List (List ℕ)) (n : ℕ) (en : n ≡ length fs) where
   pub keyed_count : (n ≡ 3 → ⊥) → Bad 0 ≡ answer_of (keyed_line kind key_of value_of last key fs)
   unfolding keyed_line
   keyed_count h = rw (← en, ne_eqb n 3 h)
@@ -142,22 +141,22 @@ module _ (kind : ℕ) (key_of value_of : List ℕ → Number) (last key : ℕ) (
     unfolding keyed_line
     keyed_order k = rw (← en, eq-eqb n 3 h, ← ef, k)
 
-    module _ (kf : f ≡ true) (a : Number) (ea : a ≡ key_of (nth 1 fs)) where
-      pub keyed_key : a ≡ BadNumber → Bad 2 ≡ answer_of (keyed_line kind key_of value_of last key fs)
+    module _ (kf : f ≡ true) (a : Option ℕ) (ea : a ≡ key_of (nth 1 fs)) where
+      pub keyed_key : a ≡ None → Bad 2 ≡ answer_of (keyed_line kind key_of value_of last key fs)
       unfolding keyed_line
       keyed_key k = rw (← en, eq-eqb n 3 h, ← ef, kf, ← ea, k)
 
-      module _ (k : ℕ) (ka : a ≡ Is k) (u : Bool) (eu : u ≡ rises last key kind k) where
+      module _ (k : ℕ) (ka : a ≡ Some k) (u : Bool) (eu : u ≡ rises last key kind k) where
         pub keyed_rise : u ≡ false → Bad 0 ≡ answer_of (keyed_line kind key_of value_of last key fs)
         unfolding keyed_line
         keyed_rise q = rw (← en, eq-eqb n 3 h, ← ef, kf, ← ea, ka, ← eu, q)
 
-        module _ (ku : u ≡ true) (b : Number) (eb : b ≡ value_of (nth 2 fs)) where
-          pub keyed_value : b ≡ BadNumber → Bad 3 ≡ answer_of (keyed_line kind key_of value_of last key fs)
+        module _ (ku : u ≡ true) (b : Option ℕ) (eb : b ≡ value_of (nth 2 fs)) where
+          pub keyed_value : b ≡ None → Bad 3 ≡ answer_of (keyed_line kind key_of value_of last key fs)
           unfolding keyed_line
           keyed_value q = rw (← en, eq-eqb n 3 h, ← ef, kf, ← ea, ka, ← eu, ku, ← eb, q)
 
-          pub keyed_row : (v : ℕ) → b ≡ Is v → Took kind k v ≡ answer_of (keyed_line kind key_of value_of last key fs)
+          pub keyed_row : (v : ℕ) → b ≡ Some v → Took kind k v ≡ answer_of (keyed_line kind key_of value_of last key fs)
           unfolding keyed_line
           keyed_row v q = rw (← en, eq-eqb n 3 h, ← ef, kf, ← ea, ka, ← eu, ku, ← eb, q)
 
@@ -172,12 +171,12 @@ module _ (last : ℕ) (fs : List (List ℕ)) (n : ℕ) (en : n ≡ length fs) wh
     unfolding through_line
     through_order k = rw (← en, eq-eqb n 2 h, ← ef, k)
 
-    module _ (kf : f ≡ true) (a : Number) (ea : a ≡ unsigned_of 1 (nth 1 fs)) where
-      pub through_bad : a ≡ BadNumber → Bad 2 ≡ answer_of (through_line last fs)
+    module _ (kf : f ≡ true) (a : Option ℕ) (ea : a ≡ unsigned_of 1 (nth 1 fs)) where
+      pub through_bad : a ≡ None → Bad 2 ≡ answer_of (through_line last fs)
       unfolding through_line
       through_bad k = rw (← en, eq-eqb n 2 h, ← ef, kf, ← ea, k)
 
-      pub through_row : (v : ℕ) → a ≡ Is v → Took 6 0 v ≡ answer_of (through_line last fs)
+      pub through_row : (v : ℕ) → a ≡ Some v → Took 6 0 v ≡ answer_of (through_line last fs)
       unfolding through_line
       through_row v k = rw (← en, eq-eqb n 2 h, ← ef, kf, ← ea, k)
 

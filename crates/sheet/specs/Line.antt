@@ -1,12 +1,11 @@
 -- One line of a rule sheet. "Sheet text: `sheet|1`, then in this order, keys rising, `t` once at most: `c|opcode|count`, `m|mode|mask`,
 -- `p|kind|mask`, `w|kind|bytes`, `t|0/1`; missing lines mean none, 0 or absent."
-use Rattle.std.specs.Prelude.{ℕ, ◌-◌, ◌^◌, Bool, true, false, ◌&&◌, ◌||◌, cond, List, eqb, ltb, leb, length, set}
+use Rattle.std.specs.Prelude.{ℕ, ◌-◌, ◌^◌, Bool, true, false, ◌&&◌, ◌||◌, cond, List, eqb, ltb, leb, length, set, Option}
 use Rattle.cells.specs.Cell.{put_cell}
 use Rattle.names.specs.Names.{bytes, equal}
 use Rattle.tables.specs.Sizes.{opcodes, kinds, modes}
 use Rattle.fields.specs.Number.{unsigned_of}
 use Rattle.fields.specs.Cut.{nth}
-use Rattle.fields.specs.declared.Number.{Number}
 use Rattle.lines.specs.Field.{Read, says, bad, number, one_of, integer64, only}
 use Rattle.lines.specs.Into.{Left, left}
 use Rattle.sheet.specs.declared.Tag.{Tag}
@@ -65,7 +64,7 @@ abbrev pub rises : ℕ → ℕ → ℕ → ℕ → Bool
 rises last key kind k = ltb last kind || ltb key k
 
 -- "unsigned: masks 16"
-abbrev pub mask16 : List ℕ → Number
+abbrev pub mask16 : List ℕ → Option ℕ
 mask16 s = unsigned_of (2 ^ 16 - 1) s
 
 -- ---- the line after one of kind `last` with the key `key`
@@ -77,7 +76,7 @@ sheet_line last fs =
     (λ _. says (row sheet_kind 0 0)))
 
 -- A key outside its list is a bad field 2. Only a key of its list can rise or not: one that does not is out of order, before its value.
-unfoldable pub keyed_line : ℕ → (List ℕ → Number) → (List ℕ → Number) → ℕ → ℕ → List (List ℕ) → Read Row
+unfoldable pub keyed_line : ℕ → (List ℕ → Option ℕ) → (List ℕ → Option ℕ) → ℕ → ℕ → List (List ℕ) → Read Row
 keyed_line kind key_of value_of last key fs =
     placed (eqb (length fs) 3 && follows last kind)
     (number 2 (key_of (nth 1 fs))

@@ -8,7 +8,6 @@ ghost use Rattle.lines.specs.Into.{number_in, left};
 ghost use Rattle.sheet.specs.Line.{tag_of, row, follows, rises, sheet_line, keyed_line, through_line, judged, stored, answer_of, line_into};
 ghost use Rattle.sheet.specs.Sheet.{lines_of, fresh, ended, read_sheet, settled, last_answer};
 
-use fields::Number;
 use lines::Width;
 use tables::{Answer, Refusal};
 
@@ -78,7 +77,7 @@ fn tag_of(tag: &[u8]) -> Tag
 }
 
 // The number in field k of a line, counted from 0.
-fn number_at(line: &[u8], k: u64, width: Width) -> Number
+fn number_at(line: &[u8], k: u64, width: Width) -> Option<u64>
     ensures { result ≡ number_in width (nth k (split 9 line.now)) }
 {
     lines::number_in(fields::part(line, 9, k), width)
@@ -113,7 +112,7 @@ fn sheet_line(line: &[u8], last: u64) -> Line
         return Line::Bad(0);
     }
     let a = number_at(line, 1, Width::Signed(HALF_64));
-    let Number::Is(one) = a else {
+    let Some(one) = a else {
         return Line::Bad(2);
     };
     if one != 1 {
@@ -137,14 +136,14 @@ fn keyed_line(line: &[u8], kind: u64, most: u64, width: Width, last: u64, key: u
         return Line::Bad(0);
     }
     let a = number_at(line, 1, Width::Unsigned(most));
-    let Number::Is(k) = a else {
+    let Some(k) = a else {
         return Line::Bad(2);
     };
     if !rises(last, key, kind, k) {
         return Line::Bad(0);
     }
     let b = number_at(line, 2, width);
-    let Number::Is(value) = b else {
+    let Some(value) = b else {
         return Line::Bad(3);
     };
     Line::Row {
@@ -164,7 +163,7 @@ fn through_line(line: &[u8], last: u64) -> Line
         return Line::Bad(0);
     }
     let a = number_at(line, 1, Width::Unsigned(1));
-    let Number::Is(value) = a else {
+    let Some(value) = a else {
         return Line::Bad(2);
     };
     Line::Row {

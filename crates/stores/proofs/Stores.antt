@@ -1,8 +1,8 @@
 -- One line stored: a row written cell by cell, and the ways through the functions that store a line of each kind.
+use Rattle.std.specs.Prelude.{Option, Some, None}
 use Prim.Native.Nat.{ℕ, suc, ◌+◌, ◌*◌, ◌%◌, ◌^◌, ◌≤◌, ◌<◌}
 use mathlib.Core.Bool.{Bool, true, false, ◌&&◌, cond}
 use mathlib.Core.List.{List, [], ◌∷◌}
-use mathlib.Core.Option.{Option, some, none}
 use mathlib.Core.Path.{◌≡◌, refl, sym, ◌∙◌, ap}
 use native.Mathlib.Omega.{arith}
 use native.Mathlib.Nat.{mod-eq_of_lt}
@@ -12,8 +12,6 @@ use lib.ListN.{length, get_or, set, drop, drop_of_length-le}
 use lib.Seq.{sets, drop-cons}
 use borrow.Author.Tests.{lt-ltb, le-ltb, le-leb, lt-leb}
 use Rattle.fields.specs.Cut.{nth}
-use Rattle.fields.specs.declared.Number.{Number}
-use Rattle.fields.specs.declared.Number.TheVariants.{Is, Bad as BadNumber}
 use Rattle.lines.specs.Field.{Read, says, bad, number, list, one_of, id32, integer32, list_of}
 use Rattle.lines.specs.Line.{TypeRow, ValueRow, dim_of, type_line, value_line, function_line}
 use Rattle.lines.specs.Into.{left}
@@ -62,18 +60,18 @@ field_two fs e =
         record { form = form; kind = kind; pointer = pointer; padded = padded; sparse = sparse; dims = dims }
 
     dims : (o : Option (List ℕ)) (f : List ℕ → TypeRow) → list 7 o (λ xs. says (f xs)) ≡ bad 0 → ⊥
-    dims none f h = let z : ◌≡◌ {A = ℕ} 7 0 = cc in omega arith
-    dims (some xs) f h = let z : ◌≡◌ {A = ℕ} 0 1 = cc in omega arith
+    dims None f h = let z : ◌≡◌ {A = ℕ} 7 0 = cc in omega arith
+    dims (Some xs) f h = let z : ◌≡◌ {A = ℕ} 0 1 = cc in omega arith
 
-    by : (a b c d e : Number) (o : ℕ → Option (List ℕ))
+    by : (a b c d e : Option ℕ) (o : ℕ → Option (List ℕ))
         → number 2 a (λ form. number 3 b (λ kind. number 4 c (λ pointer. number 5 d (λ padded. number 6 e (λ sparse. list 7 (o form)
         (λ xs. says (row form kind pointer padded sparse xs))))))) ≡ bad 0 → ⊥
-    by BadNumber b c d e o h = let z : ◌≡◌ {A = ℕ} 2 0 = cc in omega arith
-    by (Is form) BadNumber c d e o h = let z : ◌≡◌ {A = ℕ} 3 0 = cc in omega arith
-    by (Is form) (Is kind) BadNumber d e o h = let z : ◌≡◌ {A = ℕ} 4 0 = cc in omega arith
-    by (Is form) (Is kind) (Is pointer) BadNumber e o h = let z : ◌≡◌ {A = ℕ} 5 0 = cc in omega arith
-    by (Is form) (Is kind) (Is pointer) (Is padded) BadNumber o h = let z : ◌≡◌ {A = ℕ} 6 0 = cc in omega arith
-    by (Is form) (Is kind) (Is pointer) (Is padded) (Is sparse) o h = dims (o form) (row form kind pointer padded sparse) h
+    by None b c d e o h = let z : ◌≡◌ {A = ℕ} 2 0 = cc in omega arith
+    by (Some form) None c d e o h = let z : ◌≡◌ {A = ℕ} 3 0 = cc in omega arith
+    by (Some form) (Some kind) None d e o h = let z : ◌≡◌ {A = ℕ} 4 0 = cc in omega arith
+    by (Some form) (Some kind) (Some pointer) None e o h = let z : ◌≡◌ {A = ℕ} 5 0 = cc in omega arith
+    by (Some form) (Some kind) (Some pointer) (Some padded) None o h = let z : ◌≡◌ {A = ℕ} 6 0 = cc in omega arith
+    by (Some form) (Some kind) (Some pointer) (Some padded) (Some sparse) o h = dims (o form) (row form kind pointer padded sparse) h
 
 pub and_false : (t : Bool) → t && false ≡ false
 and_false true = refl

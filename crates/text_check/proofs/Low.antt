@@ -1,4 +1,5 @@
 -- A sheet's lines have three fields at most, so no 15 of a sheet names a field past 3.
+use Rattle.std.specs.Prelude.{Option, Some, None}
 use Prim.Native.Nat.{ℕ, suc, ◌+◌, ◌≤◌}
 use native.Mathlib.Omega.{arith}
 use mathlib.Core.Path.{◌≡◌, refl, subst, ◌∙◌, ap}
@@ -7,8 +8,6 @@ use mathlib.Core.List.{List, [], ◌∷◌}
 use lib.Dec.{eqb, ltb}
 use lib.ListN.{length}
 use Rattle.fields.specs.Cut.{split, nth}
-use Rattle.fields.specs.declared.Number.{Number}
-use Rattle.fields.specs.declared.Number.TheVariants.{Is, Bad}
 use Rattle.tables.specs.Sizes.{opcodes, modes, kinds, max_text}
 use Rattle.tables.specs.Answer.{numbers_of, Answer}
 use Rattle.std.specs.Prelude.{Ok, Err}
@@ -36,9 +35,9 @@ placed_low : (b : Bool) {y : Read Row} → LowRow y → LowRow (placed b y)
 placed_low true h = h
 placed_low false h = bad_low 0 (omega arith)
 
-number_low : (k : ℕ) (n : Number) {rest : ℕ → Read Row} → k ≤ 3 → ((m : ℕ) → LowRow (rest m)) → LowRow (number k n rest)
-number_low k (Is m) h r = r m
-number_low k Bad h r = bad_low k h
+number_low : (k : ℕ) (n : Option ℕ) {rest : ℕ → Read Row} → k ≤ 3 → ((m : ℕ) → LowRow (rest m)) → LowRow (number k n rest)
+number_low k (Some m) h r = r m
+number_low k None h r = bad_low k h
 
 sheet_line_low : (last : ℕ) (fs : List (List ℕ)) → LowRow (sheet_line last fs)
 unfolding sheet_line
@@ -47,7 +46,7 @@ sheet_line_low last fs =
     (number_low 2 (only 1 (integer64 (nth 1 fs))) (omega arith)
     (λ m. says_low (row sheet_kind 0 0)))
 
-keyed_line_low : (kind : ℕ) (key_of value_of : List ℕ → Number) (last key : ℕ) (fs : List (List ℕ)) → LowRow (keyed_line kind key_of value_of last key fs)
+keyed_line_low : (kind : ℕ) (key_of value_of : List ℕ → Option ℕ) (last key : ℕ) (fs : List (List ℕ)) → LowRow (keyed_line kind key_of value_of last key fs)
 unfolding keyed_line
 keyed_line_low kind key_of value_of last key fs =
     placed_low (eqb (length fs) 3 && follows last kind)

@@ -22,10 +22,11 @@ loop-i-preserved c =
     let l = c.loop-i in
     let left = c.args.k - l.i in
     let few = end_le c.args.byte c.loop-i.p c.find-end.result c.args.s.now (omega arith) c.find-end.ensures in
-    let n : c.args.k - (l.i + 1) ≡ left - 1 = omega arith in
-    (omega (arith, few),
-    ap (λ (j : _). nth j (split c.args.byte (drop (c.find-end.result + 1) c.args.s.now))) n
-    ∙ sym (ap (nth left) (at_more _ l.p _ _ (omega arith) c.find-end.ensures (omega (arith, few))) ∙ nth_next _ _ left (omega arith)) ∙ l.invariant.1)
+    let n : c.args.k - (l.i + 1) ≡ left - 1 = omega arith in (
+      omega (arith, few),
+      ap (λ (j : _). nth j (split c.args.byte (drop (c.find-end.result + 1) c.args.s.now))) n
+          ∙ sym (ap (nth left) (at_more _ l.p _ _ (omega arith) c.find-end.ensures (omega (arith, few))) ∙ nth_next _ _ left (omega arith)) ∙ l.invariant.1,
+    )
 
 pub returns : goal.returns
 returns c =

@@ -2,14 +2,14 @@
 use Rattle.house.proofs.Tags.{advance_bad, advance_full, advance_taken}
 use Rattle.house.proofs.advance.Goals as goal
 
-pub returns-in-Bad : goal.returns-in-Bad
-returns-in-Bad c =
-    advance_bad c.args.s _ _ _ _ _ _ c.refusing.ensures c.next.ensures c.in-Bad.is
+pub returns-in-Err-Bad : goal.returns-in-Err-Bad
+returns-in-Err-Bad c =
+    advance_bad c.args.s _ _ _ _ _ _ c.refusing.ensures c.next.ensures c.in-Err-Bad.is
 
-pub returns-in-Full : goal.returns-in-Full
-returns-in-Full c =
-    advance_full c.args.s _ _ _ _ _ c.refusing-in-Full.ensures c.count_of.ensures c.in-Full.is
+pub returns-in-Err-Full : goal.returns-in-Err-Full
+returns-in-Err-Full c =
+    advance_full c.args.s _ _ _ _ _ c.refusing-in-Err-Full.ensures c.count_of.ensures c.in-Err-Full.is
 
-pub returns-in-Taken : goal.returns-in-Taken
-returns-in-Taken c =
-    advance_taken c.args.s _ _ _ _ _ _ _ c.phase_of.ensures c.next-in-Taken.ensures c.counted.ensures c.in-Taken.is
+pub returns-in-Ok : goal.returns-in-Ok
+returns-in-Ok c =
+    advance_taken c.args.s _ _ _ _ _ _ _ c.phase_of.ensures c.next-in-Ok.ensures c.counted.ensures c.in-Ok.is

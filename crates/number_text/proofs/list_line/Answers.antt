@@ -12,12 +12,12 @@ returns-in_default c =
 
 pub returns-then-position-functions : goal.returns-then-position-functions
 returns-then-position-functions c =
-    list_order c.args.functions c.args.count _ c.args.numbers.now _ c.count.ensures c.if-count-ne3.false _ c.part.ensures _ c.unsigned-a.ensures _ c.in-Is.is c.if-position-functions.true
+    list_order c.args.functions c.args.count _ c.args.numbers.now _ c.count.ensures c.if-count-ne3.false _ c.part.ensures _ c.unsigned-a.ensures _ c.in-Some.is c.if-position-functions.true
 
 pub returns-in_default-b : goal.returns-in_default-b
 returns-in_default-b c =
-    list_wrong c.args.functions c.args.count _ c.args.numbers.now _ c.count.ensures c.if-count-ne3.false _ c.part.ensures _ c.unsigned-a.ensures _ c.in-Is.is c.if-position-functions.false _ c.part-list.ensures _ _ c.list_into-b.ensures c.in_default-b.is
+    list_wrong c.args.functions c.args.count _ c.args.numbers.now _ c.count.ensures c.if-count-ne3.false _ c.part.ensures _ c.unsigned-a.ensures _ c.in-Some.is c.if-position-functions.false _ c.part-list.ensures _ _ c.list_into-b.ensures c.in_default-b.is
 
 pub returns : goal.returns
 returns c =
-    list_row c.args.functions c.args.count _ c.args.numbers.now _ c.count.ensures c.if-count-ne3.false _ c.part.ensures _ c.unsigned-a.ensures _ c.in-Is.is c.if-position-functions.false _ c.part-list.ensures _ _ c.list_into-b.ensures _ c.in-Count.is
+    list_row c.args.functions c.args.count _ c.args.numbers.now _ c.count.ensures c.if-count-ne3.false _ c.part.ensures _ c.unsigned-a.ensures _ c.in-Some.is c.if-position-functions.false _ c.part-list.ensures _ _ c.list_into-b.ensures _ c.in-Some-b.is

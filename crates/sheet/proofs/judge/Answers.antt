@@ -10,7 +10,7 @@ returns-in-Sheet c =
 
 pub returns-in-Count : goal.returns-in-Count
 returns-in-Count c =
-    c.keyed_line.ensures ∙ judged_by _ _ _ _ _ Count c.tag_of-tag.ensures c.part.ensures c.in-Count.is
+    c.keyed_line.ensures ∙ judged_by _ _ _ _ _ Count c.tag_of-tag.ensures c.part.ensures c.in-Some-b.is
 
 pub returns-in-Mode : goal.returns-in-Mode
 returns-in-Mode c =

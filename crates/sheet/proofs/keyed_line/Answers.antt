@@ -18,12 +18,12 @@ returns-in_default c =
 
 pub returns-then-not-rises : goal.returns-then-not-rises
 returns-then-not-rises c =
-    keyed_rise _ (number_in (Unsigned c.args.most)) (number_in c.args.width) _ _ _ _ c.count.ensures c.if-count-ne3.false _ c.follows.ensures c.if-not-follows.false _ c.number_at-a.ensures _ c.in-Is.is _ c.rises.ensures c.if-not-rises.true
+    keyed_rise _ (number_in (Unsigned c.args.most)) (number_in c.args.width) _ _ _ _ c.count.ensures c.if-count-ne3.false _ c.follows.ensures c.if-not-follows.false _ c.number_at-a.ensures _ c.in-Some.is _ c.rises.ensures c.if-not-rises.true
 
 pub returns-in_default-b : goal.returns-in_default-b
 returns-in_default-b c =
-    keyed_value _ (number_in (Unsigned c.args.most)) (number_in c.args.width) _ _ _ _ c.count.ensures c.if-count-ne3.false _ c.follows.ensures c.if-not-follows.false _ c.number_at-a.ensures _ c.in-Is.is _ c.rises.ensures c.if-not-rises.false _ c.number_at-b.ensures c.in_default-b.is
+    keyed_value _ (number_in (Unsigned c.args.most)) (number_in c.args.width) _ _ _ _ c.count.ensures c.if-count-ne3.false _ c.follows.ensures c.if-not-follows.false _ c.number_at-a.ensures _ c.in-Some.is _ c.rises.ensures c.if-not-rises.false _ c.number_at-b.ensures c.in_default-b.is
 
 pub returns : goal.returns
 returns c =
-    keyed_row _ (number_in (Unsigned c.args.most)) (number_in c.args.width) _ _ _ _ c.count.ensures c.if-count-ne3.false _ c.follows.ensures c.if-not-follows.false _ c.number_at-a.ensures _ c.in-Is.is _ c.rises.ensures c.if-not-rises.false _ c.number_at-b.ensures _ c.in-Is-b.is
+    keyed_row _ (number_in (Unsigned c.args.most)) (number_in c.args.width) _ _ _ _ c.count.ensures c.if-count-ne3.false _ c.follows.ensures c.if-not-follows.false _ c.number_at-a.ensures _ c.in-Some.is _ c.rises.ensures c.if-not-rises.false _ c.number_at-b.ensures _ c.in-Some-b.is

@@ -16,8 +16,8 @@ returns-in_default c =
 
 pub returns-then-one-ne1 : goal.returns-then-one-ne1
 returns-then-one-ne1 c =
-    sheet_other _ _ _ c.count.ensures c.if-count-ne2.false c.if-last-ne0.false _ c.number_at-a.ensures _ c.in-Is.is c.if-one-ne1.true
+    sheet_other _ _ _ c.count.ensures c.if-count-ne2.false c.if-last-ne0.false _ c.number_at-a.ensures _ c.in-Some.is c.if-one-ne1.true
 
 pub returns : goal.returns
 returns c =
-    sheet_row _ _ _ c.count.ensures c.if-count-ne2.false c.if-last-ne0.false _ c.number_at-a.ensures _ c.in-Is.is c.if-one-ne1.false
+    sheet_row _ _ _ c.count.ensures c.if-count-ne2.false c.if-last-ne0.false _ c.number_at-a.ensures _ c.in-Some.is c.if-one-ne1.false

@@ -16,4 +16,4 @@ returns-in_default c =
 
 pub returns : goal.returns
 returns c =
-    through_row _ _ _ c.count.ensures c.if-count-ne2.false _ c.follows.ensures c.if-not-follows.false _ c.number_at-a.ensures _ c.in-Is.is
+    through_row _ _ _ c.count.ensures c.if-count-ne2.false _ c.follows.ensures c.if-not-follows.false _ c.number_at-a.ensures _ c.in-Some.is
