@@ -4,7 +4,6 @@ use mathlib.Core.Bool.{Bool, true, false, ◌||◌, or-true, false≢true}
 use mathlib.Core.Logic.{◌⊎◌, inl, inr, ⊎_elim}
 use Prim.Native.Nat.{ℕ, zero, suc, ◌+◌, ◌-◌, ◌*◌, ◌%◌, ◌^◌, ◌≤◌, ◌<◌}
 use native.Mathlib.Nat.{one-mul, pow-suc, mod-eq_of_lt}
-use native.Mathlib.Numerals.{sub-one}
 use native.Mathlib.Omega.{arith}
 use lib.Dec.{eqb, ltb}
 use lib.Pow.{pow_pos, pow-lt}
@@ -22,12 +21,6 @@ lt_or_ge a b = by_test a b (ltb a b) refl
 -- a shifted 1 is a power
 pub shifted : (k : ℕ) → k < 64 → (1 * 2 ^ k) % 2 ^ 64 ≡ 2 ^ k
 shifted k h = rw one-mul (mod-eq_of_lt (pow-lt h))
-
--- one power less
-pub pow_step : (k x : ℕ) → 0 < k → power_below k x ≡ (eqb x (2 ^ (k - 1)) || power_below (k - 1) x)
-unfolding power_below
-pow_step zero x h = absurd (omega arith)
-pow_step (suc k) x h = simp sub-one
 
 -- no power below 2 ^ d is 2 ^ d or more
 pow_above : (d n : ℕ) → 2 ^ d ≤ n → power_below d n ≡ false

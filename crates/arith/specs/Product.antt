@@ -1,5 +1,5 @@
 -- Products that have to stay in an i64.
-use Rattle.std.specs.Prelude.{ℕ, ◌-◌, ◌^◌, cond, List, [], ◌∷◌, ℤ, pos, negsuc, ◌*ℤ◌, Option, Some, None}
+use Rattle.std.specs.Prelude.{cond, List, [], ◌∷◌, ℤ, pos, ◌*ℤ◌, Option, Some, None}
 use Rattle.arith.specs.Signed.{fits_width}
 
 -- z, where that is an i64: a number that fits 64 bits.
@@ -23,10 +23,3 @@ times_all a (d ∷ ds) = and_then (times_of a d) (λ p. times_all p ds)
 -- The product, from 1. Paper: "both products are taken from the left"; "a partial product outside i64 is code 12".
 unfoldable pub product_of : List ℤ → Option ℤ
 product_of ds = times_all (pos 1) ds
-
--- The greatest size of an i64 that is a product of numbers of these signs.
-unfoldable pub room_of : ℤ → ℤ → ℕ
-room_of (pos m) (pos n) = 2 ^ 63 - 1
-room_of (pos m) (negsuc n) = 2 ^ 63
-room_of (negsuc m) (pos n) = 2 ^ 63
-room_of (negsuc m) (negsuc n) = 2 ^ 63 - 1

@@ -1,5 +1,5 @@
 -- `fits_width` meets its contract: `half` is 2^(bits - 1), so `most` and `fewest` are the ends of the range.
-use mathlib.Core.Path.{◌≡◌, sym}
+use mathlib.Core.Path.{◌≡◌, sym, ◌∙◌}
 use mathlib.Core.Bool.{Bool}
 use Prim.Native.Nat.{ℕ, ◌-◌, ◌*◌, ◌%◌, ◌^◌, ◌<◌, ◌≤◌}
 use native.Mathlib.Omega.{arith}
@@ -64,8 +64,8 @@ returns-then-fewest-v c =
       low c.args.bits c.args.v c.ranges.v some few c.if-fewest-v.true,
     )
 
-pub returns : goal.returns
+pub returns-else-fewest-v : goal.returns-else-fewest-v
 unfolding fits_width
-returns c =
+returns-else-fewest-v c =
     let some : 0 < c.args.bits = omega arith in
-    simp (lt-ltb 0 c.args.bits some, low c.args.bits c.args.v c.ranges.v some c.if-bits-ge64.false c.if-fewest-v.false)
+    c.if-fewest-v.false ∙ simp (lt-ltb 0 c.args.bits some, low c.args.bits c.args.v c.ranges.v some c.if-bits-ge64.false c.if-fewest-v.false)
