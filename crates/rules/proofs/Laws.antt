@@ -4,12 +4,12 @@ use mathlib.Core.Path.{◌≡◌, refl, ap}
 use mathlib.Core.List.{List, []}
 use Rattle.tables.specs.Answer.{and_then}
 use Rattle.tables.specs.Tables.{Tables, lent, opcode}
-use Rattle.lookups.specs.declared.Verdict.{Verdict}
 use Rattle.rules_small.specs.Memory.{make_view, alloca}
 use Rattle.rules_small.specs.Power.{f_pow_i}
 use Rattle.rules_small.specs.Rounding.{f_to_i, f_to_f, add_f, exp, flushed}
 use Rattle.rules_small.specs.Token.{tokens}
 use Rattle.rules.specs.Operation.{arm_of, arm_rule, judged, verify_operation, Arm, Shape, Atomic, Assumed, MakeView, Allocation, Power, Mma, Part, ToInteger, ToFloat, Sum, Exponential, Token, View, Free}
+use Rattle.lookups.specs.Verdict.{Verdict}
 
 -- the tables that a rule reads
 abbrev pub bare : Tables → Tables

@@ -6,8 +6,6 @@ use Rattle.cells.specs.Lists.{mem}
 use Rattle.tables.specs.Tables.{Tables, opcode}
 use Rattle.tables.specs.Answer.{and_then, each, Answer}
 use Rattle.tables.specs.declared.Refusal.TheVariants.{RuleBroken, ProductLeaves}
-use Rattle.lookups.specs.declared.Verdict.{Verdict}
-use Rattle.lookups.specs.declared.Verdict.TheVariants.{Holds, Broken, Leaves}
 use Rattle.rules_shape.specs.Arm.{shape_arm}
 use Rattle.rules_atomic.specs.Arm.{atomic_arm}
 use Rattle.rules_assume.specs.Assume.{assume_arm}
@@ -19,6 +17,8 @@ use Rattle.rules_small.specs.Rounding.{f_to_i as f_to_iarm, f_to_f as f_to_farm,
 use Rattle.rules_small.specs.Token.{tokens as tokens_arm}
 use Rattle.rules_view.specs.View.{view_arm}
 use Rattle.rules.specs.Opcode.{bitcast, reshape, broadcast, permute, pack, unpack, atomic_rmw, atomic_cas, assume, make_tensor_view, make_partition_view, make_gather_scatter_view, make_strided_view, alloca, f_pow_i, mma_f, mma_i, mma_fscaled, insert, extract, f_to_i, f_to_f, add_f, sub_f, mul_f, fma, exp, tan_h, gdc_launch_dependents_tko, gdc_wait_tko, memory_fence_alias_tko, load_view, store_view, atomic_red_view}
+use Rattle.lookups.specs.Verdict.{Verdict}
+use Rattle.lookups.specs.declared.Fault.TheVariants.{Broken, Leaves}
 
 -- the arms of the match on the opcode, in its order; the last is that of an opcode with no rule of its own
 pub data Arm : Type 0 where
@@ -59,13 +59,13 @@ arm_rule version sheet x i Sum = add_farm x i
 arm_rule version sheet x i Exponential = exp_arm sheet x i
 arm_rule version sheet x i Token = tokens_arm x i
 arm_rule version sheet x i View = view_arm sheet x i
-arm_rule version sheet x i Free = Holds
+arm_rule version sheet x i Free = Ok tt
 
 -- 11 with the reason, 12 with 0
 abbrev pub judged : ℕ → Verdict → Answer
-judged i Holds = Ok tt
-judged i (Broken reason) = Err (RuleBroken i reason)
-judged i Leaves = Err (ProductLeaves i)
+judged i (Ok tt) = Ok tt
+judged i (Err (Broken reason)) = Err (RuleBroken i reason)
+judged i (Err Leaves) = Err (ProductLeaves i)
 
 -- the arm; "the closing flush_to_zero rule is 99"
 unfoldable pub verify_operation : ℕ → List ℕ → Tables → ℕ → Answer

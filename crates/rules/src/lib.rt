@@ -7,7 +7,7 @@ ghost use Rattle.tables.specs.Layout.{opcode_in};
 ghost use Rattle.tables.specs.Tables.{lent};
 ghost use Rattle.rules.specs.Operation.{arm_of, arm_rule, judged, verify_operation, rules};
 
-use lookups::Verdict;
+use lookups::{Fault, Verdict};
 use rules_atomic::{ATOMIC_CAS, ATOMIC_RMW};
 use rules_shape::{BITCAST, BROADCAST, PACK, PERMUTE, RESHAPE, UNPACK};
 use tables::{Answer, Counts, Refusal};
@@ -55,7 +55,7 @@ fn arm_rule(
         LOAD_VIEW_TKO | STORE_VIEW_TKO | ATOMIC_RED_VIEW_TKO => rules_view::view_access(
             t, v, o, a, l, sheet, n, i,
         ),
-        _ => Verdict::Holds,
+        _ => Ok(()),
     }
 }
 
@@ -64,9 +64,9 @@ fn judged(operation: u64, verdict: Verdict) -> Answer
     ensures { result ≡ judged operation verdict }
 {
     match verdict {
-        Verdict::Holds => Ok(()),
-        Verdict::Broken(reason) => Err(Refusal::RuleBroken { operation, reason }),
-        Verdict::Leaves => Err(Refusal::ProductLeaves { operation }),
+        Ok(()) => Ok(()),
+        Err(Fault::Broken(reason)) => Err(Refusal::RuleBroken { operation, reason }),
+        Err(Fault::Leaves) => Err(Refusal::ProductLeaves { operation }),
     }
 }
 

@@ -6,7 +6,7 @@ ghost use Rattle.std.specs.Int.Signed.{lt_z};
 ghost use Rattle.lookups.specs.Lookup.{is_absent};
 ghost use Rattle.rules_assume.specs.Assume.{has_bit, number_in, is_divisor_wrong, group_rule, div_by_rule, same_elements_rule, is_outside_width, is_reversed, is_bound_wrong, bounded_rule, attribute_rule, is_holds, is_tensor_view, assume_in};
 
-use lookups::{Found, Typed, Verdict};
+use lookups::{Fault, Verdict};
 use tables::Counts;
 use tiles::Tile;
 
@@ -26,27 +26,27 @@ fn has_bit(mask: u64, j: u64) -> bool
 }
 
 // Number j of an attribute, where it is not absent.
-fn number_at(a: &[u32], l: &[u64], n: Counts, attribute: u64, j: u64) -> Found
+fn number_at(a: &[u32], l: &[u64], n: Counts, attribute: u64, j: u64) -> Option<u64>
     ensures { result ≡ number_in a.now l.now n attribute j }
 {
     if has_bit(tables::attribute_absent(a, n, attribute), j) {
-        return Found::Absent;
+        return None;
     }
-    Found::Number(cells::at(tables::attribute_numbers(a, l, n, attribute), j))
+    Some(cells::at(tables::attribute_numbers(a, l, n, attribute), j))
 }
 
-fn is_absent(found: Found) -> bool
+fn is_absent(found: Option<u64>) -> bool
     ensures { result ≡ is_absent found }
 {
     match found {
-        Found::Number(_) => false,
-        Found::Absent => true,
+        Some(_) => false,
+        None => true,
     }
 }
 
 // ---- div_by
 
-fn is_divisor_wrong(divisor: u64, every: Found, along: Found) -> bool
+fn is_divisor_wrong(divisor: u64, every: Option<u64>, along: Option<u64>) -> bool
     ensures { result ≡ is_divisor_wrong divisor every along }
 {
     let no_every = is_absent(every);
@@ -58,32 +58,32 @@ fn is_divisor_wrong(divisor: u64, every: Found, along: Found) -> bool
 }
 
 // What is asked of a group size and an axis that are both there.
-fn group_rule(value: Tile, every: Found, along: Found) -> Verdict
+fn group_rule(value: Tile, every: Option<u64>, along: Option<u64>) -> Verdict
     ensures { result ≡ group_rule value every along }
 {
-    let Found::Number(size) = every else {
-        return Verdict::Holds;
+    let Some(size) = every else {
+        return Ok(());
     };
-    let Found::Number(axis) = along else {
-        return Verdict::Holds;
+    let Some(axis) = along else {
+        return Ok(());
     };
     if !tiles::is_tile(value) {
-        return Verdict::Broken(3);
+        return Err(Fault::Broken(3));
     }
     if tiles::group_outside(value, size, axis) {
-        return Verdict::Broken(4);
+        return Err(Fault::Broken(4));
     }
-    Verdict::Holds
+    Ok(())
 }
 
-fn div_by_rule(value: Tile, view: bool, divisor: u64, every: Found, along: Found) -> Verdict
+fn div_by_rule(value: Tile, view: bool, divisor: u64, every: Option<u64>, along: Option<u64>) -> Verdict
     ensures { result ≡ div_by_rule value view divisor every along }
 {
     if is_divisor_wrong(divisor, every, along) {
-        return Verdict::Broken(1);
+        return Err(Fault::Broken(1));
     }
     if !tiles::is_integers_or_pointers(value) & !view {
-        return Verdict::Broken(2);
+        return Err(Fault::Broken(2));
     }
     group_rule(value, every, along)
 }
@@ -94,23 +94,23 @@ fn same_elements_rule(value: Tile, sizes: &[u64]) -> Verdict
     ensures { result ≡ same_elements_rule value sizes.now }
 {
     if !tiles::is_integers_or_pointers(value) {
-        return Verdict::Broken(5);
+        return Err(Fault::Broken(5));
     }
     if tiles::groups_outside(value, sizes) {
-        return Verdict::Broken(6);
+        return Err(Fault::Broken(6));
     }
-    Verdict::Holds
+    Ok(())
 }
 
 // ---- bounded
 
 // An endpoint outside the signed range of so many bits.
-fn is_outside_width(bits: u64, endpoint: Found) -> bool
+fn is_outside_width(bits: u64, endpoint: Option<u64>) -> bool
     ensures { result ≡ is_outside_width bits endpoint }
 {
     match endpoint {
-        Found::Number(z) => !arith::fits_width(bits, arith::signed(z)),
-        Found::Absent => false,
+        Some(z) => !arith::fits_width(bits, arith::signed(z)),
+        None => false,
     }
 }
 
@@ -121,35 +121,35 @@ fn less(x: i64, y: i64) -> bool
 }
 
 // Two endpoints, the lower above the upper.
-fn is_reversed(lb: Found, ub: Found) -> bool
+fn is_reversed(lb: Option<u64>, ub: Option<u64>) -> bool
     ensures { result ≡ is_reversed lb ub }
 {
-    let Found::Number(low) = lb else {
+    let Some(low) = lb else {
         return false;
     };
     match ub {
-        Found::Number(high) => less(arith::signed(high), arith::signed(low)),
-        Found::Absent => false,
+        Some(high) => less(arith::signed(high), arith::signed(low)),
+        None => false,
     }
 }
 
-fn is_bound_wrong(bits: u64, lb: Found, ub: Found) -> bool
+fn is_bound_wrong(bits: u64, lb: Option<u64>, ub: Option<u64>) -> bool
     ensures { result ≡ is_bound_wrong bits lb ub }
 {
     is_outside_width(bits, lb) | is_outside_width(bits, ub) | is_reversed(lb, ub)
 }
 
-fn bounded_rule(sheet: &[u64], value: Tile, lb: Found, ub: Found) -> Verdict
+fn bounded_rule(sheet: &[u64], value: Tile, lb: Option<u64>, ub: Option<u64>) -> Verdict
     ensures { result ≡ bounded_rule sheet.now value lb ub }
 {
     if !tiles::is_integers(value) {
-        return Verdict::Broken(7);
+        return Err(Fault::Broken(7));
     }
     let bits = tiles::bits(sheet, value.kind);
     if is_bound_wrong(bits, lb, ub) {
-        return Verdict::Broken(8);
+        return Err(Fault::Broken(8));
     }
-    Verdict::Holds
+    Ok(())
 }
 
 // ---- the arm
@@ -182,25 +182,25 @@ fn attribute_rule(
         let ub = number_at(a, l, n, attribute, 1);
         return bounded_rule(sheet, value, lb, ub);
     }
-    Verdict::Holds
+    Ok(())
 }
 
 fn holds(verdict: Verdict) -> bool
     ensures { result ≡ is_holds verdict }
 {
     match verdict {
-        Verdict::Holds => true,
-        Verdict::Broken(_) => false,
-        Verdict::Leaves => false,
+        Ok(()) => true,
+        Err(Fault::Broken(_)) => false,
+        Err(Fault::Leaves) => false,
     }
 }
 
-fn is_tensor_view(t: &[u64], n: Counts, typed: Typed) -> bool
+fn is_tensor_view(t: &[u64], n: Counts, typed: Option<u64>) -> bool
     ensures { result ≡ is_tensor_view t.now n typed }
 {
     match typed {
-        Typed::By(id) => tables::type_form(t, n, id) == TENSOR_VIEW,
-        Typed::Untyped => false,
+        Some(id) => tables::type_form(t, n, id) == TENSOR_VIEW,
+        None => false,
     }
 }
 
@@ -230,5 +230,5 @@ pub fn assume(
         k += 1;
         left -= 1;
     }
-    Verdict::Holds
+    Ok(())
 }

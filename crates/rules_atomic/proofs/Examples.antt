@@ -1,4 +1,5 @@
 -- The arm on one operation, by computation: a reason for each line of the arm, and each opcode kept.
+use Rattle.std.specs.Prelude.{Ok, Err}
 use mathlib.Core.Path.{◌≡◌, refl}
 use mathlib.Core.List.{List, [], ◌∷◌, ◌++◌}
 use Prim.Native.Nat.{ℕ, ◌-◌, ◌^◌}
@@ -15,10 +16,9 @@ use Rattle.tiles.specs.Shape.{eq_z, all_pairs, same_rank, same_shape, same_tile}
 use Rattle.tiles.specs.Rules.{atomic_differs, is_word, is_wrong_mask}
 use Rattle.lookups.specs.Lookup.{is_taken, first_in, is_entry, entry_in, integer_in}
 use Rattle.lookups.specs.Typed.{operand_type_in, operand_tile_in, result_type_in, result_tile_in}
-use Rattle.lookups.specs.Verdict.{fail_if}
-use Rattle.lookups.specs.declared.Verdict.{Verdict}
-use Rattle.lookups.specs.declared.Verdict.TheVariants.{Holds, Broken}
+use Rattle.lookups.specs.Verdict.{Verdict, fail_if}
 use Rattle.rules_atomic.specs.Arm.{atomic_cas, is_swap, takes_kind, is_mode, is_between, is_bad_swap, is_bad_mode, is_bad_order, any_wrong_mask, mask_start, is_bad_mask, atomic_by, atomic_in, atomic_arm}
+use Rattle.lookups.specs.declared.Fault.TheVariants.{Broken}
 
 -- a type of this form and kind, with one dim
 abbrev type : ℕ → ℕ → ℕ → List ℕ
@@ -78,6 +78,6 @@ pub answers :
     ∷ rmw 3 4 (2 ^ 64 - 1) (0 ∷ 1 ∷ [])
     ∷ rmw 3 4 2 (0 ∷ 1 ∷ 3 ∷ [])  -- the mask is longer than the value
     ∷ [])
-    ≡ (Holds ∷ Holds ∷ Broken 1 ∷ Broken 2 ∷ Broken 3 ∷ Broken 4 ∷ Broken 5 ∷ Broken 5 ∷ Broken 6 ∷ Broken 6 ∷ Broken 7 ∷ Broken 7 ∷ Broken 7 ∷ Broken 7 ∷ Broken 8 ∷ [])
+    ≡ ((Ok tt) ∷ (Ok tt) ∷ Err (Broken 1) ∷ Err (Broken 2) ∷ Err (Broken 3) ∷ Err (Broken 4) ∷ Err (Broken 5) ∷ Err (Broken 5) ∷ Err (Broken 6) ∷ Err (Broken 6) ∷ Err (Broken 7) ∷ Err (Broken 7) ∷ Err (Broken 7) ∷ Err (Broken 7) ∷ Err (Broken 8) ∷ [])
 unfolding opcode_in operands_in operands_span_in result_types_in result_types_span_in attributes_in attributes_span_in value_type_in form_in kind_in pointer_in rank_in dims_in name_in attribute_form_in numbers_in numbers_span_in mode_mask_in byte_width_in bits_in no_tile tile_in cells_of row_tile seen_in eight_of dims_of rank_of is_tile is_number is_pointer scalar_of has_kind points_to same_element eq_z all_pairs same_rank same_shape same_tile atomic_differs is_word is_wrong_mask is_taken first_in is_entry entry_in integer_in operand_type_in operand_tile_in result_type_in result_tile_in fail_if is_swap takes_kind is_mode is_between is_bad_swap is_bad_mode is_bad_order any_wrong_mask mask_start is_bad_mask atomic_by atomic_in signed_of
 answers = refl

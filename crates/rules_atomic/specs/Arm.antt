@@ -1,6 +1,6 @@
 -- The arm of `AtomicRMW | AtomicCAS` in verify_target.rs, line by line. An integer attribute is its 64 bits, so that a negative one is in
 -- none of the ranges.
-use Rattle.std.specs.Prelude.{ℕ, ◌/◌, ◌%◌, ◌^◌, Bool, false, not, cond, ◌&&◌, ◌||◌, List, [], ◌∷◌, eqb, ltb, leb, drop}
+use Rattle.std.specs.Prelude.{ℕ, ◌/◌, ◌%◌, ◌^◌, Bool, false, not, cond, ◌&&◌, ◌||◌, List, [], ◌∷◌, eqb, ltb, leb, drop, Option, Ok}
 use Rattle.names.specs.Names.{mode, memory_ordering_semantics, memory_scope}
 use Rattle.tables.specs.Layout.{opcode_in, operands_in, value_type_in}
 use Rattle.tables.specs.Sheet.{mode_mask_in}
@@ -12,10 +12,7 @@ use Rattle.tiles.specs.Rules.{atomic_differs, is_word, is_wrong_mask}
 use Rattle.tiles.specs.declared.Tile.{Tile}
 use Rattle.lookups.specs.Lookup.{integer_in, is_some}
 use Rattle.lookups.specs.Typed.{operand_tile_in, result_tile_in}
-use Rattle.lookups.specs.Verdict.{fail_if}
-use Rattle.lookups.specs.declared.Found.{Found}
-use Rattle.lookups.specs.declared.Verdict.{Verdict}
-use Rattle.lookups.specs.declared.Verdict.TheVariants.{Holds}
+use Rattle.lookups.specs.Verdict.{Verdict, fail_if}
 
 -- "Opcodes are positions 0 to 104 in `OPCODES`"; the arm's other is 8, AtomicRMW
 abbrev pub atomic_cas : ℕ
@@ -29,11 +26,11 @@ unfoldable pub takes_kind : List ℕ → ℕ → ℕ → Bool
 takes_kind sheet kind m = ltb kind 16 && eqb (mode_mask_in sheet m / 2 ^ kind % 2) 1
 
 -- `atomic_mode_valid`: "A mode absent or outside 0 to 15 is invalid."
-unfoldable pub is_mode : List ℕ → ℕ → Found → Bool
+unfoldable pub is_mode : List ℕ → ℕ → Option ℕ → Bool
 is_mode sheet kind found = is_some (takes_kind sheet kind) found
 
 -- there is a number, from low to high
-unfoldable pub is_between : ℕ → ℕ → Found → Bool
+unfoldable pub is_between : ℕ → ℕ → Option ℕ → Bool
 is_between low high found = is_some (λ m. leb low m && leb m high) found
 
 -- a swap whose operand 2 is not as the value, or whose elements are not of 32 or 64 bits
@@ -75,7 +72,7 @@ atomic_by t v o a l sheet n i ptr val result =
     (fail_if (is_bad_mode o a l sheet n i val) 6
     (fail_if (is_bad_order o a l n i) 7
     (fail_if (is_bad_mask t v o l sheet n i val) 8
-    Holds)))))))
+    (Ok tt))))))))
 
 -- the pointer is operand 0, the value operand 1
 unfoldable pub atomic_in : List ℕ → List ℕ → List ℕ → List ℕ → List ℕ → List ℕ → Counts → ℕ → Verdict

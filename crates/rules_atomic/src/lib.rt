@@ -4,7 +4,7 @@
 ghost use Rattle.std.specs.Prelude.{◌≡◌, drop};
 ghost use Rattle.rules_atomic.specs.Arm.{is_swap, takes_kind, is_mode, is_between, is_bad_swap, is_bad_mode, is_bad_order, any_wrong_mask, mask_start, is_bad_mask, atomic_by, atomic_in};
 
-use lookups::{Found, Verdict};
+use lookups::{Fault, Verdict};
 use tables::Counts;
 use tiles::Tile;
 
@@ -29,21 +29,21 @@ fn takes_kind(sheet: &[u64], kind: u64, mode: u64) -> bool
 }
 
 // There is a mode, and it takes this kind.
-pub fn is_mode(sheet: &[u64], kind: u64, mode: Found) -> bool
+pub fn is_mode(sheet: &[u64], kind: u64, mode: Option<u64>) -> bool
     ensures { result ≡ is_mode sheet.now kind mode }
 {
     match mode {
-        Found::Number(bits) => takes_kind(sheet, kind, bits),
-        Found::Absent => false,
+        Some(bits) => takes_kind(sheet, kind, bits),
+        None => false,
     }
 }
 
-fn is_between(low: u64, high: u64, found: Found) -> bool
+fn is_between(low: u64, high: u64, found: Option<u64>) -> bool
     ensures { result ≡ is_between low high found }
 {
     match found {
-        Found::Number(bits) => (low <= bits) & (bits <= high),
-        Found::Absent => false,
+        Some(bits) => (low <= bits) & (bits <= high),
+        None => false,
     }
 }
 
@@ -158,30 +158,30 @@ fn atomic(
     ensures { result ≡ atomic_by t.now v.now o.now a.now l.now sheet.now n operation ptr val res }
 {
     if !tiles::is_tile(ptr) {
-        return Verdict::Broken(1);
+        return Err(Fault::Broken(1));
     }
     if !tiles::is_tile(val) {
-        return Verdict::Broken(2);
+        return Err(Fault::Broken(2));
     }
     if !tiles::is_number(val) {
-        return Verdict::Broken(3);
+        return Err(Fault::Broken(3));
     }
     if tiles::atomic_differs(ptr, val, res) {
-        return Verdict::Broken(4);
+        return Err(Fault::Broken(4));
     }
     if is_bad_swap(t, v, o, l, sheet, n, operation, val) {
-        return Verdict::Broken(5);
+        return Err(Fault::Broken(5));
     }
     if is_bad_mode(o, a, l, sheet, n, operation, val) {
-        return Verdict::Broken(6);
+        return Err(Fault::Broken(6));
     }
     if is_bad_order(o, a, l, n, operation) {
-        return Verdict::Broken(7);
+        return Err(Fault::Broken(7));
     }
     if is_bad_mask(t, v, o, l, sheet, n, operation, val) {
-        return Verdict::Broken(8);
+        return Err(Fault::Broken(8));
     }
-    Verdict::Holds
+    Ok(())
 }
 
 // The rule of an atomic operation.

@@ -1,5 +1,5 @@
 -- The arm of MmaF, MmaI and MmaFScaled: a is the lhs, b the rhs, c the accumulator, sa and sb their scales.
-use Rattle.std.specs.Prelude.{ℕ, not, cond, List, eqb}
+use Rattle.std.specs.Prelude.{ℕ, not, cond, List, eqb, Ok}
 use Rattle.tables.specs.Layout.{opcode_in}
 use Rattle.tables.specs.Tables.{Tables}
 use Rattle.tables.specs.declared.Counts.{Counts}
@@ -7,9 +7,7 @@ use Rattle.tiles.specs.Tile.{is_tile, same_scalar}
 use Rattle.tiles.specs.Mma.{mma_ranks_differ, mma_dims_differ, is_mma_kinds, scale_ranks_differ, scale_dims_differ, is_scale_kinds}
 use Rattle.tiles.specs.declared.Tile.{Tile}
 use Rattle.lookups.specs.Typed.{operand_tile_in, result_tile_in}
-use Rattle.lookups.specs.Verdict.{fail_if}
-use Rattle.lookups.specs.declared.Verdict.{Verdict}
-use Rattle.lookups.specs.declared.Verdict.TheVariants.{Holds}
+use Rattle.lookups.specs.Verdict.{Verdict, fail_if}
 use Rattle.rules_matrix.specs.Opcodes.{mma_f, mma_fscaled}
 
 -- what MmaFScaled asks besides: scales that are tiles, of matching ranks and shapes, for kinds and vectors that go together
@@ -20,14 +18,14 @@ scaled_rule a b c sa sb =
     (fail_if (scale_ranks_differ a c sa sb) 10
     (fail_if (scale_dims_differ a b sa sb) 11
     (fail_if (not (is_scale_kinds a sa)) 12
-    Holds))))
+    (Ok tt)))))
 
 -- what follows reason 6: MmaF asks for kinds that go together, MmaFScaled for scales, MmaI nothing
 unfoldable pub kinds_rule : ℕ → Tile → Tile → Tile → Tile → Tile → Verdict
 kinds_rule opcode a b c sa sb =
     cond (eqb opcode mma_f)
-    (fail_if (not (is_mma_kinds a c)) 7 Holds)
-    (cond (eqb opcode mma_fscaled) (scaled_rule a b c sa sb) Holds)
+    (fail_if (not (is_mma_kinds a c)) 7 (Ok tt))
+    (cond (eqb opcode mma_fscaled) (scaled_rule a b c sa sb) (Ok tt))
 
 -- the arm, over the tiles that it reads
 unfoldable pub mma_rule : ℕ → Tile → Tile → Tile → Tile → Tile → Tile → Verdict

@@ -1,5 +1,5 @@
 -- The arm of Insert and Extract: a small tile is put into a large one, or taken out of it, at one index for each dim.
-use Rattle.std.specs.Prelude.{ℕ, ◌+◌, Bool, false, not, cond, ◌||◌, List, [], ◌∷◌, eqb, length}
+use Rattle.std.specs.Prelude.{ℕ, ◌+◌, Bool, false, not, cond, ◌||◌, List, [], ◌∷◌, eqb, length, Ok}
 use Rattle.cells.specs.Lists.{from}
 use Rattle.tables.specs.Layout.{opcode_in, operands_in}
 use Rattle.tables.specs.Tables.{Tables}
@@ -9,9 +9,7 @@ use Rattle.tiles.specs.Shape.{same_tile}
 use Rattle.tiles.specs.Rules.{is_no_part, is_index}
 use Rattle.tiles.specs.declared.Tile.{Tile}
 use Rattle.lookups.specs.Typed.{operand_tile_in, result_tile_in}
-use Rattle.lookups.specs.Verdict.{fail_if}
-use Rattle.lookups.specs.declared.Verdict.{Verdict}
-use Rattle.lookups.specs.declared.Verdict.TheVariants.{Holds}
+use Rattle.lookups.specs.Verdict.{Verdict, fail_if}
 use Rattle.rules_matrix.specs.Opcodes.{insert}
 
 -- some entry has the property
@@ -34,7 +32,7 @@ module _ (t v o l sheet : List ℕ) (n : Counts) (i : ℕ) where
   part_rule small large offset =
       fail_if (is_no_part small large) 4
       (fail_if (indices_differ offset (rank_of small)) 5
-      Holds)
+      (Ok tt))
 
   -- the arm: Insert puts its source into operand 1, of the result's type; Extract takes its result out of its source
   unfoldable pub part_in : Verdict

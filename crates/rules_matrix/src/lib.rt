@@ -8,7 +8,7 @@ ghost use Rattle.tiles.specs.Rules.{is_index};
 ghost use Rattle.rules_matrix.specs.Mma.{scaled_rule, kinds_rule, mma_rule, mma_in};
 ghost use Rattle.rules_matrix.specs.Part.{indices_differ, part_rule, part_in};
 
-use lookups::Verdict;
+use lookups::{Fault, Verdict};
 use tables::Counts;
 use tiles::Tile;
 
@@ -23,21 +23,21 @@ fn scaled_rule(a: Tile, b: Tile, c: Tile, sa: Tile, sb: Tile) -> Verdict
     ensures { result ≡ scaled_rule a b c sa sb }
 {
     if !tiles::is_tile(sa) {
-        return Verdict::Broken(8);
+        return Err(Fault::Broken(8));
     }
     if !tiles::is_tile(sb) {
-        return Verdict::Broken(9);
+        return Err(Fault::Broken(9));
     }
     if tiles::scale_ranks_differ(a, c, sa, sb) {
-        return Verdict::Broken(10);
+        return Err(Fault::Broken(10));
     }
     if tiles::scale_dims_differ(a, b, sa, sb) {
-        return Verdict::Broken(11);
+        return Err(Fault::Broken(11));
     }
     if !tiles::is_scale_kinds(a, sa) {
-        return Verdict::Broken(12);
+        return Err(Fault::Broken(12));
     }
-    Verdict::Holds
+    Ok(())
 }
 
 // What an opcode asks of kinds and scales.
@@ -46,14 +46,14 @@ fn kinds_rule(opcode: u64, a: Tile, b: Tile, c: Tile, sa: Tile, sb: Tile) -> Ver
 {
     if opcode == MMA_F {
         if !tiles::is_mma_kinds(a, c) {
-            return Verdict::Broken(7);
+            return Err(Fault::Broken(7));
         }
-        return Verdict::Holds;
+        return Ok(());
     }
     if opcode == MMA_F_SCALED {
         return scaled_rule(a, b, c, sa, sb);
     }
-    Verdict::Holds
+    Ok(())
 }
 
 // The arm over the tiles that it reads.
@@ -61,22 +61,22 @@ fn mma_rule(opcode: u64, a: Tile, b: Tile, c: Tile, res: Tile, sa: Tile, sb: Til
     ensures { result ≡ mma_rule opcode a b c res sa sb }
 {
     if !tiles::is_tile(a) {
-        return Verdict::Broken(1);
+        return Err(Fault::Broken(1));
     }
     if !tiles::is_tile(b) {
-        return Verdict::Broken(2);
+        return Err(Fault::Broken(2));
     }
     if !tiles::is_tile(c) {
-        return Verdict::Broken(3);
+        return Err(Fault::Broken(3));
     }
     if tiles::mma_ranks_differ(a, b, c, res) {
-        return Verdict::Broken(4);
+        return Err(Fault::Broken(4));
     }
     if tiles::mma_dims_differ(a, b, c) {
-        return Verdict::Broken(5);
+        return Err(Fault::Broken(5));
     }
     if !tiles::same_scalar(a, b) {
-        return Verdict::Broken(6);
+        return Err(Fault::Broken(6));
     }
     kinds_rule(opcode, a, b, c, sa, sb)
 }
@@ -159,13 +159,13 @@ fn part_rule(
     ensures { result ≡ part_rule t.now v.now o.now l.now sheet.now n operation small large offset }
 {
     if tiles::is_no_part(small, large) {
-        return Verdict::Broken(4);
+        return Err(Fault::Broken(4));
     }
     let rank = tiles::rank(small);
     if indices_differ(t, v, o, l, sheet, n, operation, offset, rank) {
-        return Verdict::Broken(5);
+        return Err(Fault::Broken(5));
     }
-    Verdict::Holds
+    Ok(())
 }
 
 // The arm of Insert and Extract.
@@ -182,18 +182,18 @@ pub fn insert_extract(
 {
     let source = lookups::operand_tile(t, v, o, l, sheet, n, operation, 0);
     if !tiles::is_tile(source) {
-        return Verdict::Broken(1);
+        return Err(Fault::Broken(1));
     }
     let output = lookups::result_tile(t, o, l, sheet, n, operation);
     if !tiles::is_tile(output) {
-        return Verdict::Broken(2);
+        return Err(Fault::Broken(2));
     }
     if tables::opcode(o, n, operation) != INSERT {
         return part_rule(t, v, o, l, sheet, n, operation, output, source, 1);
     }
     let into = lookups::operand_tile(t, v, o, l, sheet, n, operation, 1);
     if !tiles::same_tile(into, output) {
-        return Verdict::Broken(3);
+        return Err(Fault::Broken(3));
     }
     part_rule(t, v, o, l, sheet, n, operation, source, output, 2)
 }

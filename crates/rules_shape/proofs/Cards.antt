@@ -1,4 +1,5 @@
 -- Cards 11 and 12, and where a product of pack is asked, by computation on one operation from a tile to a tile.
+use Rattle.std.specs.Prelude.{Ok, Err}
 use mathlib.Core.Path.{◌≡◌, refl}
 use mathlib.Core.List.{List, [], ◌∷◌, ◌++◌}
 use Prim.Native.Nat.{ℕ, ◌-◌, ◌^◌}
@@ -14,11 +15,10 @@ use Rattle.tiles.specs.Tile.{tile_in, cells_of, row_tile, seen_in, eight_of, dim
 use Rattle.tiles.specs.Shape.{count_of, eq_z}
 use Rattle.tiles.specs.Rules.{is_reshape, is_packable, bit_count_of, is_packed}
 use Rattle.lookups.specs.Typed.{operand_type_in, operand_tile_in, result_type_in, result_tile_in}
-use Rattle.lookups.specs.Verdict.{fail_if, leave_if}
-use Rattle.lookups.specs.declared.Verdict.{Verdict}
-use Rattle.lookups.specs.declared.Verdict.TheVariants.{Holds, Broken, Leaves}
+use Rattle.lookups.specs.Verdict.{Verdict, fail_if, leave_if}
 use Rattle.rules_shape.specs.Opcode.{pack, reshape}
 use Rattle.rules_shape.specs.Arm.{is_packing, pack_leaves, valid_in, shaped_in, shape_in, shape_arm}
+use Rattle.lookups.specs.declared.Fault.TheVariants.{Broken, Leaves}
 
 -- a type: a tile of this kind with these dims
 abbrev tile : ℕ → List ℕ → List ℕ
@@ -52,6 +52,6 @@ pub cards :
     ∷ answer pack (tile I64 (2 ^ 57 ∷ [])) (tile I8 (2 ^ 60 ∷ []))  -- 2^63 bits
     ∷ answer pack (tile I64 (2 ^ 57 ∷ [])) (tile I8 (2 ^ 30 ∷ 2 ^ 30 ∷ []))  -- the bits are not asked: the result has rank 2
     ∷ [])
-    ≡ (Holds ∷ Broken 3 ∷ Holds ∷ Leaves ∷ Leaves ∷ Holds ∷ Leaves ∷ Broken 3 ∷ [])
+    ≡ ((Ok tt) ∷ Err (Broken 3) ∷ (Ok tt) ∷ (Err Leaves) ∷ (Err Leaves) ∷ (Ok tt) ∷ (Err Leaves) ∷ Err (Broken 3) ∷ [])
 unfolding shape_in shaped_in valid_in pack_leaves is_packing fail_if leave_if operand_tile_in operand_type_in result_tile_in result_type_in opcode_in operands_in operands_span_in result_types_in result_types_span_in value_type_in form_in kind_in pointer_in rank_in dims_in tile_in cells_of row_tile seen_in eight_of dims_of rank_of is_tile is_number same_element signed_of count_of product_of times_all times_of held fits_width is_reshape is_packable bit_count_of is_packed bits_in byte_width_in eq_z
 cards = refl

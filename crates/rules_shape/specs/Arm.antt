@@ -1,5 +1,5 @@
 -- The arm of `Bitcast | Reshape | Broadcast | Permute | Pack | Unpack` in verify_target.rs, line by line.
-use Rattle.std.specs.Prelude.{ℕ, Bool, false, not, cond, ◌&&◌, ◌||◌, List, eqb}
+use Rattle.std.specs.Prelude.{ℕ, Bool, false, not, cond, ◌&&◌, ◌||◌, List, eqb, Option, Some, None, Ok}
 use Rattle.tables.specs.Layout.{opcode_in, numbers_in}
 use Rattle.tables.specs.Tables.{Tables}
 use Rattle.tables.specs.declared.Counts.{Counts}
@@ -9,17 +9,13 @@ use Rattle.tiles.specs.Rules.{is_bitcast, is_reshape, is_broadcast, is_permuted,
 use Rattle.tiles.specs.declared.Tile.{Tile}
 use Rattle.lookups.specs.Lookup.{permutation_in}
 use Rattle.lookups.specs.Typed.{operand_tile_in, result_tile_in}
-use Rattle.lookups.specs.Verdict.{fail_if, leave_if}
-use Rattle.lookups.specs.declared.Entry.{Entry}
-use Rattle.lookups.specs.declared.Entry.TheVariants.{At, Nowhere}
-use Rattle.lookups.specs.declared.Verdict.{Verdict}
-use Rattle.lookups.specs.declared.Verdict.TheVariants.{Holds}
+use Rattle.lookups.specs.Verdict.{Verdict, fail_if, leave_if}
 use Rattle.rules_shape.specs.Opcode.{bitcast, reshape, broadcast, permute, pack, unpack}
 
 -- Permute: there is a permutation, and it moves the dims
-abbrev pub moved_by : List ℕ → List ℕ → Counts → Tile → Tile → Entry → Bool
-moved_by a l n src dst (At k) = is_permuted src dst (numbers_in a l n k)
-moved_by a l n src dst Nowhere = false
+abbrev pub moved_by : List ℕ → List ℕ → Counts → Tile → Tile → Option ℕ → Bool
+moved_by a l n src dst (Some k) = is_permuted src dst (numbers_in a l n k)
+moved_by a l n src dst None = false
 
 -- Pack or Unpack
 unfoldable pub is_packing : ℕ → Bool
@@ -50,7 +46,7 @@ shaped_in o a l sheet n i src dst =
     (leave_if (has_left (count_of dst))
     (leave_if (pack_leaves sheet (opcode_in o n i) src dst)
     (fail_if (not (valid_in o a l sheet n i src dst)) 3  -- they do not go together
-    Holds)))))
+    (Ok tt))))))
 
 -- the source is operand 0
 unfoldable pub shape_in : List ℕ → List ℕ → List ℕ → List ℕ → List ℕ → List ℕ → Counts → ℕ → Verdict

@@ -4,7 +4,7 @@
 ghost use Rattle.std.specs.Prelude.{◌≡◌};
 ghost use Rattle.rules_shape.specs.Arm.{moved_by, is_packing, pack_leaves, valid_in, shaped_in, shape_in};
 
-use lookups::{Entry, Verdict};
+use lookups::{Fault, Verdict};
 use tables::Counts;
 use tiles::Tile;
 
@@ -21,12 +21,12 @@ pub const PACK: u64 = 93;
 pub const UNPACK: u64 = 94;
 
 // There is a permutation, and it moves the source's dims to the result's.
-fn is_moved(a: &[u32], l: &[u64], n: Counts, src: Tile, dst: Tile, permutation: Entry) -> bool
+fn is_moved(a: &[u32], l: &[u64], n: Counts, src: Tile, dst: Tile, permutation: Option<u64>) -> bool
     ensures { result ≡ moved_by a.now l.now n src dst permutation }
 {
     match permutation {
-        Entry::At(k) => tiles::is_permuted(src, dst, tables::attribute_numbers(a, l, n, k)),
-        Entry::Nowhere => false,
+        Some(k) => tiles::is_permuted(src, dst, tables::attribute_numbers(a, l, n, k)),
+        None => false,
     }
 }
 
@@ -46,7 +46,7 @@ fn pack_leaves(sheet: &[u64], code: u64, src: Tile, dst: Tile) -> bool
     if !tiles::is_packable(sheet, src, dst) {
         return false;
     }
-    tiles::has_left(tiles::bit_count(sheet, src)) | tiles::has_left(tiles::bit_count(sheet, dst))
+    tiles::bit_count(sheet, src).is_none() | tiles::bit_count(sheet, dst).is_none()
 }
 
 // What the operation asks of its source and its result.
@@ -94,25 +94,25 @@ fn shaped(
     ensures { result ≡ shaped_in o.now a.now l.now sheet.now n operation src dst }
 {
     if !tiles::is_tile(src) {
-        return Verdict::Broken(1);
+        return Err(Fault::Broken(1));
     }
     if !tiles::is_tile(dst) {
-        return Verdict::Broken(2);
+        return Err(Fault::Broken(2));
     }
-    if tiles::has_left(tiles::count(src)) {
-        return Verdict::Leaves;
+    if tiles::count(src).is_none() {
+        return Err(Fault::Leaves);
     }
-    if tiles::has_left(tiles::count(dst)) {
-        return Verdict::Leaves;
+    if tiles::count(dst).is_none() {
+        return Err(Fault::Leaves);
     }
     let code = tables::opcode(o, n, operation);
     if pack_leaves(sheet, code, src, dst) {
-        return Verdict::Leaves;
+        return Err(Fault::Leaves);
     }
     if !is_valid(o, a, l, sheet, n, operation, src, dst) {
-        return Verdict::Broken(3);
+        return Err(Fault::Broken(3));
     }
-    Verdict::Holds
+    Ok(())
 }
 
 // The rule of a shape operation.

@@ -1,6 +1,6 @@
 -- The arms that ask for a rounding mode, and the closing rule on flush_to_zero. A rounding is the 64 bits of an integer, so that a negative
 -- one is in none of the ranges.
-use Rattle.std.specs.Prelude.{ℕ, ◌/◌, ◌%◌, ◌^◌, Bool, not, cond, ◌&&◌, ◌||◌, List, eqb, ltb, leb}
+use Rattle.std.specs.Prelude.{ℕ, ◌/◌, ◌%◌, ◌^◌, Bool, not, cond, ◌&&◌, ◌||◌, List, eqb, ltb, leb, Ok}
 use Rattle.names.specs.Names.{rounding_mode}
 use Rattle.tables.specs.Sheet.{byte_width_in, contained_mask_in}
 use Rattle.tables.specs.Tables.{Tables}
@@ -8,17 +8,15 @@ use Rattle.tiles.specs.Kind.{F32, TF32, F64, F8E8M0FNU, is_integer}
 use Rattle.tiles.specs.Tile.{is_number, has_kind}
 use Rattle.lookups.specs.Lookup.{integer_of, is_some, number_or, flushes}
 use Rattle.lookups.specs.Typed.{operand_tile, result_tile}
-use Rattle.lookups.specs.Verdict.{fail_if}
-use Rattle.lookups.specs.declared.Verdict.{Verdict}
-use Rattle.lookups.specs.declared.Verdict.TheVariants.{Holds}
+use Rattle.lookups.specs.Verdict.{Verdict, fail_if}
 
 -- 31 FToI
 unfoldable pub f_to_i : Tables → ℕ → Verdict
-f_to_i x i = fail_if (not (is_some (λ r. eqb r 6) (integer_of x i rounding_mode))) 1 Holds
+f_to_i x i = fail_if (not (is_some (λ r. eqb r 6) (integer_of x i rounding_mode))) 1 (Ok tt)
 
 -- 2 AddF, 85 SubF, 58 MulF, 28 Fma: `Some(0..=3)`
 unfoldable pub add_f : Tables → ℕ → Verdict
-add_f x i = fail_if (not (is_some (λ r. leb r 3) (integer_of x i rounding_mode))) 1 Holds
+add_f x i = fail_if (not (is_some (λ r. leb r 3) (integer_of x i rounding_mode))) 1 (Ok tt)
 
 -- 23 Exp, 88 TanH: 4 is approx, 5 is full and stands for none
 unfoldable pub exp : List ℕ → Tables → ℕ → Verdict
@@ -26,7 +24,7 @@ exp sheet x i =
     let r = number_or 5 (integer_of x i rounding_mode) in
     fail_if (not (eqb r 4 || eqb r 5)) 1
     (fail_if (eqb r 4 && not (has_kind (operand_tile sheet x i 0) F32)) 2
-    Holds)
+    (Ok tt))
 
 -- "per destination float kind a mask of source kinds it contains": bit k is for kind k, of 16
 unfoldable pub is_contained : List ℕ → ℕ → ℕ → Bool
@@ -53,8 +51,8 @@ f_to_f version sheet x i =
     (fail_if (is_integer dst.kind) 4
     (fail_if (eqb src.kind dst.kind) 5
     (fail_if (not (is_some (is_rounding version sheet src.kind dst.kind) (integer_of x i rounding_mode))) 6
-    Holds)))))
+    (Ok tt))))))
 
 -- "the closing flush_to_zero rule is 99"
 unfoldable pub flushed : List ℕ → Tables → ℕ → Verdict
-flushed sheet x i = fail_if (flushes x i && not (has_kind (operand_tile sheet x i 0) F32)) 99 Holds
+flushed sheet x i = fail_if (flushes x i && not (has_kind (operand_tile sheet x i 0) F32)) 99 (Ok tt)

@@ -1,11 +1,9 @@
 -- The arm of the token operations.
-use Rattle.std.specs.Prelude.{ℕ, Bool, false, not, ◌&&◌, ◌||◌, List, [], ◌∷◌, eqb, ltb, length}
+use Rattle.std.specs.Prelude.{ℕ, Bool, false, not, ◌&&◌, ◌||◌, List, [], ◌∷◌, eqb, ltb, length, Ok}
 use Rattle.tables.specs.Layout.{form_in, value_type_in}
 use Rattle.tables.specs.Tables.{Tables, opcode, result_types, operands}
 use Rattle.tables.specs.declared.Counts.{Counts}
-use Rattle.lookups.specs.Verdict.{fail_if}
-use Rattle.lookups.specs.declared.Verdict.{Verdict}
-use Rattle.lookups.specs.declared.Verdict.TheVariants.{Holds}
+use Rattle.lookups.specs.Verdict.{Verdict, fail_if}
 
 -- "0 token (no kind, other columns mean nothing)"
 unfoldable pub is_token : List ℕ → Counts → ℕ → Bool
@@ -34,4 +32,4 @@ is_signature t v n op types vs =
 -- 101 GdcLaunchDependentsTko, 102 GdcWaitTko, 104 MemoryFenceAliasTko
 unfoldable pub tokens : Tables → ℕ → Verdict
 tokens x i =
-    fail_if (not (is_signature x.t x.v x.counts (opcode x i) (result_types x i) (operands x i))) 1 Holds
+    fail_if (not (is_signature x.t x.v x.counts (opcode x i) (result_types x i) (operands x i))) 1 (Ok tt)

@@ -9,7 +9,7 @@ ghost use Rattle.rules_small.specs.Memory.{pointer_by, make_view, is_negative, i
 ghost use Rattle.rules_small.specs.Power.{f_pow_i};
 ghost use Rattle.rules_small.specs.Token.{is_token, is_one_token, is_signature, tokens};
 
-use lookups::{Found, Typed, Verdict};
+use lookups::{Fault, Verdict};
 use tables::Counts;
 
 // The number of MemoryFenceAliasTko.
@@ -20,11 +20,11 @@ pub fn f_to_i(o: &[u32], a: &[u32], l: &[u64], n: Counts, operation: u64) -> Ver
     ensures { result ≡ f_to_i (lent [] [] o.now a.now [] [] [] l.now n) operation }
 {
     match lookups::integer(o, a, l, n, operation, names::ROUNDING_MODE) {
-        Found::Number(rounding) => match rounding {
-            6 => Verdict::Holds,
-            _ => Verdict::Broken(1),
+        Some(rounding) => match rounding {
+            6 => Ok(()),
+            _ => Err(Fault::Broken(1)),
         },
-        Found::Absent => Verdict::Broken(1),
+        None => Err(Fault::Broken(1)),
     }
 }
 
@@ -34,11 +34,11 @@ pub fn add_f(o: &[u32], a: &[u32], l: &[u64], n: Counts, operation: u64) -> Verd
     ensures { result ≡ add_f (lent [] [] o.now a.now [] [] [] l.now n) operation }
 {
     match lookups::integer(o, a, l, n, operation, names::ROUNDING_MODE) {
-        Found::Number(rounding) => match rounding {
-            0..=3 => Verdict::Holds,
-            _ => Verdict::Broken(1),
+        Some(rounding) => match rounding {
+            0..=3 => Ok(()),
+            _ => Err(Fault::Broken(1)),
         },
-        Found::Absent => Verdict::Broken(1),
+        None => Err(Fault::Broken(1)),
     }
 }
 
@@ -58,23 +58,23 @@ pub fn exp(
     let found = lookups::integer(o, a, l, n, operation, names::ROUNDING_MODE);
     let rounding = lookups::number_or(found, 5);
     if !((rounding == 4) | (rounding == 5)) {
-        return Verdict::Broken(1);
+        return Err(Fault::Broken(1));
     }
     if rounding == 4 {
         if !lookups::operand_has_kind(t, v, o, l, sheet, n, operation, 0, tiles::F32) {
-            return Verdict::Broken(2);
+            return Err(Fault::Broken(2));
         }
     }
-    Verdict::Holds
+    Ok(())
 }
 
 // The pointer attribute of a type, 0 where there is none.
-fn pointer_by(t: &[u64], n: Counts, typed: Typed) -> u64
+fn pointer_by(t: &[u64], n: Counts, typed: Option<u64>) -> u64
     ensures { result ≡ pointer_by t.now n typed }
 {
     match typed {
-        Typed::By(id) => tables::type_pointer(t, n, id),
-        Typed::Untyped => 0,
+        Some(id) => tables::type_pointer(t, n, id),
+        None => 0,
     }
 }
 
@@ -85,17 +85,17 @@ pub fn make_view(t: &[u64], v: &[u64], o: &[u32], l: &[u64], n: Counts, operatio
     let source = pointer_by(t, n, lookups::operand_type(v, o, l, n, operation, 0));
     let result = pointer_by(t, n, lookups::result_type(o, l, n, operation));
     if source != result {
-        return Verdict::Broken(1);
+        return Err(Fault::Broken(1));
     }
-    Verdict::Holds
+    Ok(())
 }
 
-fn is_absent(found: Found) -> bool
+fn is_absent(found: Option<u64>) -> bool
     ensures { result ≡ is_absent found }
 {
     match found {
-        Found::Number(_) => false,
-        Found::Absent => true,
+        Some(_) => false,
+        None => true,
     }
 }
 
@@ -127,22 +127,22 @@ pub fn alloca(
 {
     let count = lookups::integer(o, a, l, n, operation, names::NUM_ELEM);
     if is_absent(count) {
-        return Verdict::Broken(1);
+        return Err(Fault::Broken(1));
     }
     let found = lookups::integer(o, a, l, n, operation, names::ALIGNMENT);
     let alignment = lookups::number_or(found, 0);
     let typed = lookups::result_type(o, l, n, operation);
     let result = tiles::tile_of(lookups::row_by(t, sheet, n, typed));
     if !tiles::is_pointer(result) {
-        return Verdict::Broken(2);
+        return Err(Fault::Broken(2));
     }
     if is_negative(lookups::number_or(count, 0)) {
-        return Verdict::Broken(3);
+        return Err(Fault::Broken(3));
     }
     if is_misaligned(alignment, tables::byte_width(sheet, result.kind)) {
-        return Verdict::Broken(4);
+        return Err(Fault::Broken(4));
     }
-    Verdict::Holds
+    Ok(())
 }
 
 // FPowI: a float to the power of an integer of its shape.
@@ -159,20 +159,20 @@ pub fn f_pow_i(
 {
     let base = lookups::operand_tile(t, v, o, l, sheet, n, operation, 0);
     if !tiles::is_tile(base) {
-        return Verdict::Broken(1);
+        return Err(Fault::Broken(1));
     }
     let exponent = lookups::operand_tile(t, v, o, l, sheet, n, operation, 1);
     if !tiles::is_tile(exponent) {
-        return Verdict::Broken(2);
+        return Err(Fault::Broken(2));
     }
     let result = lookups::result_tile(t, o, l, sheet, n, operation);
     if !tiles::is_power_base(base) | !tiles::same_tile(result, base) {
-        return Verdict::Broken(3);
+        return Err(Fault::Broken(3));
     }
     if !tiles::same_shape(base, exponent) | !tiles::is_power_exponent(exponent) {
-        return Verdict::Broken(4);
+        return Err(Fault::Broken(4));
     }
-    Verdict::Holds
+    Ok(())
 }
 
 fn is_token(t: &[u64], n: Counts, id: u64) -> bool
@@ -214,9 +214,9 @@ pub fn tokens(t: &[u64], v: &[u64], o: &[u32], l: &[u64], n: Counts, operation: 
     let types = tables::result_types(o, l, n, operation);
     let operands = tables::operands(o, l, n, operation);
     if !is_signature(t, v, n, opcode, types, operands) {
-        return Verdict::Broken(1);
+        return Err(Fault::Broken(1));
     }
-    Verdict::Holds
+    Ok(())
 }
 
 // The sheet says that a destination kind contains this source kind.
@@ -272,12 +272,12 @@ fn is_rounding(sheet: &[u64], version: u64, src: u64, dst: u64, rounding: u64) -
 }
 
 // There is a rounding, and the conversion takes it.
-fn is_rounded(sheet: &[u64], version: u64, src: u64, dst: u64, rounding: Found) -> bool
+fn is_rounded(sheet: &[u64], version: u64, src: u64, dst: u64, rounding: Option<u64>) -> bool
     ensures { result ≡ is_some (is_rounding version sheet.now src dst) rounding }
 {
     match rounding {
-        Found::Number(bits) => is_rounding(sheet, version, src, dst, bits),
-        Found::Absent => false,
+        Some(bits) => is_rounding(sheet, version, src, dst, bits),
+        None => false,
     }
 }
 
@@ -298,27 +298,27 @@ pub fn f_to_f(
     let taken = lookups::operand_type(v, o, l, n, operation, 0);
     let src = tiles::tile_of(lookups::row_by(t, sheet, n, taken));
     if !tiles::is_number(src) {
-        return Verdict::Broken(1);
+        return Err(Fault::Broken(1));
     }
     let given = lookups::result_type(o, l, n, operation);
     let dst = tiles::tile_of(lookups::row_by(t, sheet, n, given));
     if !tiles::is_number(dst) {
-        return Verdict::Broken(2);
+        return Err(Fault::Broken(2));
     }
     if tiles::is_integer(src.kind) {
-        return Verdict::Broken(3);
+        return Err(Fault::Broken(3));
     }
     if tiles::is_integer(dst.kind) {
-        return Verdict::Broken(4);
+        return Err(Fault::Broken(4));
     }
     if src.kind == dst.kind {
-        return Verdict::Broken(5);
+        return Err(Fault::Broken(5));
     }
     let rounding = lookups::integer(o, a, l, n, operation, names::ROUNDING_MODE);
     if !is_rounded(sheet, version, src.kind, dst.kind, rounding) {
-        return Verdict::Broken(6);
+        return Err(Fault::Broken(6));
     }
-    Verdict::Holds
+    Ok(())
 }
 
 // The closing rule of every operation: flush_to_zero is for F32 alone.
@@ -335,10 +335,10 @@ pub fn flushed(
     ensures { result ≡ flushed sheet.now (lent t.now v.now o.now a.now [] [] [] l.now n) operation }
 {
     if !lookups::flushes(o, a, l, n, operation) {
-        return Verdict::Holds;
+        return Ok(());
     }
     if !lookups::operand_has_kind(t, v, o, l, sheet, n, operation, 0, tiles::F32) {
-        return Verdict::Broken(99);
+        return Err(Fault::Broken(99));
     }
-    Verdict::Holds
+    Ok(())
 }

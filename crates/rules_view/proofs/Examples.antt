@@ -1,4 +1,5 @@
 -- The arm on one operation, by computation: a reason for each line of the arm, and each opcode kept.
+use Rattle.std.specs.Prelude.{Ok, Err}
 use Prim.Native.Nat.{ℕ, ◌+◌, ◌-◌, ◌^◌}
 use mathlib.Core.Path.{◌≡◌, refl}
 use mathlib.Core.List.{List, [], ◌∷◌, ◌++◌}
@@ -14,10 +15,9 @@ use Rattle.tiles.specs.Shape.{eq_z, all_pairs, same_dim, same_rank, same_shape}
 use Rattle.tiles.specs.Rules.{is_axis_index}
 use Rattle.lookups.specs.Lookup.{is_taken, first_in, is_entry, entry_in, integer_in, segments_in, segment_in}
 use Rattle.lookups.specs.Typed.{operand_type_in, result_type_in, operand_tile_in, result_tile_in}
-use Rattle.lookups.specs.Verdict.{fail_if}
-use Rattle.lookups.specs.declared.Verdict.{Verdict}
-use Rattle.lookups.specs.declared.Verdict.TheVariants.{Holds, Broken}
+use Rattle.lookups.specs.Verdict.{Verdict, fail_if}
 use Rattle.rules_view.specs.View.{load_view, store_view, atomic_red_view, view_place, index_start, segment_place, is_other_tile, is_no_reduction, takes_kind, is_mode_wrong, is_count_wrong, is_order_wrong, is_other_kind, index_rule, element_after, is_sparse_axis, value_in, indices_rule, view_by, view_rule, view_arm_in, view_arm}
+use Rattle.lookups.specs.declared.Fault.TheVariants.{Broken}
 
 -- a type of this form, kind, pointer attribute, padding, sparse axis and dims
 abbrev type : ℕ → ℕ → ℕ → ℕ → ℕ → List ℕ → List ℕ
@@ -96,7 +96,7 @@ pub kept :
     ∷ store_by 2 3 0  -- release
     ∷ reduce 3 1 1 0
     ∷ [])
-    ≡ replicate 8 Holds
+    ≡ replicate 8 (Ok tt)
 unfolding opcode_in result_types_span_in result_types_in operands_span_in operands_in attributes_span_in attributes_in name_in attribute_form_in numbers_span_in numbers_in value_type_in form_in kind_in pointer_in padded_in sparse_in rank_in dims_in mode_mask_in tile_flag_in tile_through_in no_tile eight_of cells_of row_tile seen_in tile_in view_in dims_of rank_of dim_of is_tile is_number scalar_of has_kind is_integers is_integer eq_z all_pairs same_dim same_rank same_shape is_axis_index is_taken first_in is_entry entry_in integer_in segments_in segment_in operand_type_in result_type_in operand_tile_in result_tile_in fail_if view_place index_start segment_place is_other_tile is_no_reduction takes_kind is_mode_wrong is_count_wrong is_order_wrong is_other_kind index_rule element_after is_sparse_axis value_in indices_rule view_by view_rule view_arm_in signed_of
 kept = refl
 
@@ -128,6 +128,6 @@ pub refused :
     ∷ load_by 1 1 0  -- relaxed, without one
     ∷ load_by 2 (2 ^ 64 - 1) 0
     ∷ [])
-    ≡ (Broken 1 ∷ Broken 2 ∷ Broken 3 ∷ Broken 3 ∷ Broken 4 ∷ Broken 5 ∷ Broken 5 ∷ Broken 5 ∷ Broken 5 ∷ Broken 6 ∷ Broken 6 ∷ Broken 7 ∷ Broken 7 ∷ Broken 8 ∷ Broken 8 ∷ Broken 9 ∷ Broken 10 ∷ Broken 11 ∷ Broken 11 ∷ Broken 12 ∷ replicate 6 (Broken 13))
+    ≡ (Err (Broken 1) ∷ Err (Broken 2) ∷ Err (Broken 3) ∷ Err (Broken 3) ∷ Err (Broken 4) ∷ Err (Broken 5) ∷ Err (Broken 5) ∷ Err (Broken 5) ∷ Err (Broken 5) ∷ Err (Broken 6) ∷ Err (Broken 6) ∷ Err (Broken 7) ∷ Err (Broken 7) ∷ Err (Broken 8) ∷ Err (Broken 8) ∷ Err (Broken 9) ∷ Err (Broken 10) ∷ Err (Broken 11) ∷ Err (Broken 11) ∷ Err (Broken 12) ∷ replicate 6 (Err (Broken 13)))
 unfolding opcode_in result_types_span_in result_types_in operands_span_in operands_in attributes_span_in attributes_in name_in attribute_form_in numbers_span_in numbers_in value_type_in form_in kind_in pointer_in padded_in sparse_in rank_in dims_in mode_mask_in tile_flag_in tile_through_in no_tile eight_of cells_of row_tile seen_in tile_in view_in dims_of rank_of dim_of is_tile is_number scalar_of has_kind is_integers is_integer eq_z all_pairs same_dim same_rank same_shape is_axis_index is_taken first_in is_entry entry_in integer_in segments_in segment_in operand_type_in result_type_in operand_tile_in result_tile_in fail_if view_place index_start segment_place is_other_tile is_no_reduction takes_kind is_mode_wrong is_count_wrong is_order_wrong is_other_kind index_rule element_after is_sparse_axis value_in indices_rule view_by view_rule view_arm_in signed_of
 refused = refl

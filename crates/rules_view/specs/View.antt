@@ -1,6 +1,6 @@
 -- The arm of LoadViewTko, StoreViewTko and AtomicRedViewTko. `id` is the view's type, `view` the tile that it takes and gives, and `value`
 -- the tile that is loaded or stored.
-use Rattle.std.specs.Prelude.{ℕ, ◌+◌, ◌/◌, ◌%◌, ◌^◌, Bool, true, false, not, cond, ◌&&◌, ◌||◌, List, [], ◌∷◌, eqb, ltb, leb}
+use Rattle.std.specs.Prelude.{ℕ, ◌+◌, ◌/◌, ◌%◌, ◌^◌, Bool, true, false, not, cond, ◌&&◌, ◌||◌, List, [], ◌∷◌, eqb, ltb, leb, Option, Some, None, Ok, Err}
 use Rattle.cells.specs.Lists.{below}
 use Rattle.names.specs.Names.{mode, memory_ordering_semantics, memory_scope}
 use Rattle.tables.specs.Layout.{opcode_in, form_in, padded_in, sparse_in}
@@ -13,13 +13,8 @@ use Rattle.tiles.specs.Rules.{is_axis_index}
 use Rattle.tiles.specs.declared.Tile.{Tile}
 use Rattle.lookups.specs.Lookup.{integer_in, segment_in, is_absent, is_some, number_or}
 use Rattle.lookups.specs.Typed.{operand_type_in, operand_tile_in, result_tile_in}
-use Rattle.lookups.specs.Verdict.{fail_if}
-use Rattle.lookups.specs.declared.Found.{Found}
-use Rattle.lookups.specs.declared.Found.TheVariants.{Number, Absent}
-use Rattle.lookups.specs.declared.Typed.{Typed}
-use Rattle.lookups.specs.declared.Typed.TheVariants.{By, Untyped}
-use Rattle.lookups.specs.declared.Verdict.{Verdict}
-use Rattle.lookups.specs.declared.Verdict.TheVariants.{Holds, Broken, Leaves}
+use Rattle.lookups.specs.Verdict.{Verdict, fail_if}
+use Rattle.lookups.specs.declared.Fault.TheVariants.{Broken, Leaves}
 
 -- "Opcodes are positions 0 to 104 in `OPCODES`"
 abbrev pub load_view : ℕ
@@ -58,38 +53,38 @@ takes_kind sheet kind mode = ltb kind 16 && eqb (mode_mask_in sheet mode / 2 ^ k
 -- ---- the indices
 
 -- a dense index was seen before, of another kind
-unfoldable pub is_other_kind : Found → ℕ → Bool
+unfoldable pub is_other_kind : Option ℕ → ℕ → Bool
 is_other_kind element kind = is_some (λ k. not (eqb k kind)) element
 
 -- what the index of an axis has to be; `element` is the kind of the dense indices so far
-unfoldable pub index_rule : Tile → Tile → ℕ → Bool → Found → Verdict
+unfoldable pub index_rule : Tile → Tile → ℕ → Bool → Option ℕ → Verdict
 index_rule index view axis sparse element =
     fail_if (not (is_tile index)) 8
     (fail_if (not (is_integers index)) 9
     (cond sparse
-    (fail_if (not (is_axis_index index view axis)) 10 Holds)
+    (fail_if (not (is_axis_index index view axis)) 10 (Ok tt))
     (fail_if (not (eqb (rank_of index) 0)) 11
     (fail_if (is_other_kind element index.kind) 12
-    Holds))))
+    (Ok tt)))))
 
 -- the kind of the dense indices, once this one is seen
-unfoldable pub element_after : Tile → Bool → Found → Found
-element_after index sparse element = cond sparse element (Number index.kind)
+unfoldable pub element_after : Tile → Bool → Option ℕ → Option ℕ
+element_after index sparse element = cond sparse element (Some index.kind)
 
 -- the first answer that does not hold
 abbrev pub or_else : Verdict → Verdict → Verdict
-or_else Holds rest = rest
-or_else (Broken reason) rest = Broken reason
-or_else Leaves rest = Leaves
+or_else (Ok tt) rest = rest
+or_else (Err (Broken reason)) rest = Err (Broken reason)
+or_else (Err Leaves) rest = Err Leaves
 
 abbrev pub is_holds : Verdict → Bool
-is_holds Holds = true
-is_holds (Broken reason) = false
-is_holds Leaves = false
+is_holds (Ok tt) = true
+is_holds (Err (Broken reason)) = false
+is_holds (Err Leaves) = false
 
 -- the indices of these axes, in turn
-abbrev pub indices_from : (ℕ → Tile) → Tile → (ℕ → Bool) → List ℕ → Found → Verdict
-indices_from index view sparse [] element = Holds
+abbrev pub indices_from : (ℕ → Tile) → Tile → (ℕ → Bool) → List ℕ → Option ℕ → Verdict
+indices_from index view sparse [] element = Ok tt
 indices_from index view sparse (k ∷ ks) element =
     or_else (index_rule (index k) view k (sparse k) element)
     (indices_from index view sparse ks (element_after (index k) (sparse k) element))
@@ -110,7 +105,7 @@ module _ (t v o l sheet : List ℕ) (n : Counts) (i : ℕ) where
 
   unfoldable pub indices_rule : ℕ → ℕ → Tile → Verdict
   indices_rule opcode id view =
-      indices_from (λ k. operand_tile_in t v o l sheet n i (index_start opcode + k)) view (is_sparse_axis t n id) (below (rank_of view)) Absent
+      indices_from (λ k. operand_tile_in t v o l sheet n i (index_start opcode + k)) view (is_sparse_axis t n id) (below (rank_of view)) None
 
 -- reason 5: a sparse view, which form 6 always is, a padded one, or an exchange, which is mode 9
 unfoldable pub is_no_reduction : List ℕ → List ℕ → List ℕ → List ℕ → Counts → ℕ → ℕ → ℕ → Bool
@@ -151,7 +146,7 @@ module _ (t v o a l sheet : List ℕ) (n : Counts) (i : ℕ) where
       (fail_if (is_count_wrong o a l n i opcode view) 7
       (or_else (indices_rule t v o l sheet n i opcode id view)  -- 8 to 12, axis by axis
       (fail_if (is_order_wrong o a l n i opcode) 13
-      Holds)))))))
+      (Ok tt))))))))
 
   -- the arm, on the view's type
   unfoldable pub view_rule : ℕ → ℕ → Verdict
@@ -160,9 +155,9 @@ module _ (t v o a l sheet : List ℕ) (n : Counts) (i : ℕ) where
       view_by opcode id view (value_in t v o l sheet n i opcode view)
 
   -- there is a view operand, or reason 1
-  abbrev pub view_or : ℕ → Typed → Verdict
-  view_or opcode (By id) = view_rule opcode id
-  view_or opcode Untyped = Broken 1
+  abbrev pub view_or : ℕ → Option ℕ → Verdict
+  view_or opcode (Some id) = view_rule opcode id
+  view_or opcode None = Err (Broken 1)
 
   unfoldable pub view_arm_in : Verdict
   view_arm_in = let opcode = opcode_in o n i in view_or opcode (operand_type_in v o l n i (view_place opcode))

@@ -5,7 +5,7 @@ ghost use Rattle.std.specs.Prelude.{◌≡◌, eqb, leb};
 ghost use Rattle.lookups.specs.Lookup.{is_absent, is_some};
 ghost use Rattle.rules_view.specs.View.{view_place, index_start, segment_place, is_other_tile, is_no_reduction, takes_kind, is_mode_wrong, is_count_wrong, is_order_wrong, is_other_kind, index_rule, element_after, is_holds, is_sparse_axis, value_in, indices_rule, view_by, view_rule, view_arm_in};
 
-use lookups::{Found, Typed, Verdict};
+use lookups::{Fault, Verdict};
 use tables::Counts;
 use tiles::Tile;
 
@@ -46,31 +46,31 @@ fn segment_place(opcode: u64) -> u64
 // ---- the tests
 
 // A number that is there and is this one.
-fn is_number(found: Found, number: u64) -> bool
+fn is_number(found: Option<u64>, number: u64) -> bool
     ensures { result ≡ is_some (λ m. eqb m number) found }
 {
     match found {
-        Found::Number(m) => m == number,
-        Found::Absent => false,
+        Some(m) => m == number,
+        None => false,
     }
 }
 
 // A number that is there and is at most this one.
-fn is_at_most(found: Found, most: u64) -> bool
+fn is_at_most(found: Option<u64>, most: u64) -> bool
     ensures { result ≡ is_some (λ m. leb m most) found }
 {
     match found {
-        Found::Number(m) => m <= most,
-        Found::Absent => false,
+        Some(m) => m <= most,
+        None => false,
     }
 }
 
-fn is_absent(found: Found) -> bool
+fn is_absent(found: Option<u64>) -> bool
     ensures { result ≡ is_absent found }
 {
     match found {
-        Found::Number(_) => false,
-        Found::Absent => true,
+        Some(_) => false,
+        None => true,
     }
 }
 
@@ -126,7 +126,7 @@ fn is_mode_wrong(
     if opcode != ATOMIC_RED_VIEW {
         return false;
     }
-    let Found::Number(m) = lookups::integer(o, a, l, n, operation, names::MODE) else {
+    let Some(m) = lookups::integer(o, a, l, n, operation, names::MODE) else {
         return true;
     };
     !takes_kind(sheet, kind, m)
@@ -163,57 +163,57 @@ fn is_order_wrong(o: &[u32], a: &[u32], l: &[u64], n: Counts, operation: u64, op
 // ---- the indices
 
 // A kind that was seen before, and is another.
-fn is_other_kind(element: Found, kind: u64) -> bool
+fn is_other_kind(element: Option<u64>, kind: u64) -> bool
     ensures { result ≡ is_other_kind element kind }
 {
     match element {
-        Found::Number(k) => !(k == kind),
-        Found::Absent => false,
+        Some(k) => !(k == kind),
+        None => false,
     }
 }
 
 // What the index of an axis has to be.
-fn index_rule(index: Tile, view: Tile, axis: u64, sparse: bool, element: Found) -> Verdict
+fn index_rule(index: Tile, view: Tile, axis: u64, sparse: bool, element: Option<u64>) -> Verdict
     ensures { result ≡ index_rule index view axis sparse element }
 {
     if !tiles::is_tile(index) {
-        return Verdict::Broken(8);
+        return Err(Fault::Broken(8));
     }
     if !tiles::is_integers(index) {
-        return Verdict::Broken(9);
+        return Err(Fault::Broken(9));
     }
     if sparse {
         if !tiles::is_axis_index(index, view, axis) {
-            return Verdict::Broken(10);
+            return Err(Fault::Broken(10));
         }
-        return Verdict::Holds;
+        return Ok(());
     }
     if tiles::rank(index) != 0 {
-        return Verdict::Broken(11);
+        return Err(Fault::Broken(11));
     }
     if is_other_kind(element, index.kind) {
-        return Verdict::Broken(12);
+        return Err(Fault::Broken(12));
     }
-    Verdict::Holds
+    Ok(())
 }
 
 // The kind of the dense indices, once this one is seen.
-fn element_after(index: Tile, sparse: bool, element: Found) -> Found
+fn element_after(index: Tile, sparse: bool, element: Option<u64>) -> Option<u64>
     ensures { result ≡ element_after index sparse element }
 {
     if sparse {
         return element;
     }
-    Found::Number(index.kind)
+    Some(index.kind)
 }
 
 fn holds(verdict: Verdict) -> bool
     ensures { result ≡ is_holds verdict }
 {
     match verdict {
-        Verdict::Holds => true,
-        Verdict::Broken(_) => false,
-        Verdict::Leaves => false,
+        Ok(()) => true,
+        Err(Fault::Broken(_)) => false,
+        Err(Fault::Leaves) => false,
     }
 }
 
@@ -266,7 +266,7 @@ fn indices_rule(
 {
     let start = index_start(opcode);
     let rank = tiles::rank(view);
-    let mut element = Found::Absent;
+    let mut element = None;
     let mut axis: u64 = 0;
     while axis < rank {
         let typed = lookups::operand_type(v, o, l, n, operation, start + axis);
@@ -279,7 +279,7 @@ fn indices_rule(
         element = element_after(index, sparse, element);
         axis += 1;
     }
-    Verdict::Holds
+    Ok(())
 }
 
 // The arm, on the view's type, the tile that it takes and gives, and the value.
@@ -300,31 +300,31 @@ fn view_by(
     ensures { result ≡ view_by t.now v.now o.now a.now l.now sheet.now n operation opcode id view value }
 {
     if !tiles::is_tile(view) {
-        return Verdict::Broken(2);
+        return Err(Fault::Broken(2));
     }
     if !tiles::is_tile(value) {
-        return Verdict::Broken(3);
+        return Err(Fault::Broken(3));
     }
     if is_other_tile(value, view) {
-        return Verdict::Broken(4);
+        return Err(Fault::Broken(4));
     }
     if is_no_reduction(t, o, a, l, n, operation, opcode, id) {
-        return Verdict::Broken(5);
+        return Err(Fault::Broken(5));
     }
     if is_mode_wrong(o, a, l, sheet, n, operation, opcode, view.kind) {
-        return Verdict::Broken(6);
+        return Err(Fault::Broken(6));
     }
     if is_count_wrong(o, a, l, n, operation, opcode, view) {
-        return Verdict::Broken(7);
+        return Err(Fault::Broken(7));
     }
     let rule = indices_rule(t, v, o, l, sheet, n, operation, opcode, id, view);
     if !holds(rule) {
         return rule;
     }
     if is_order_wrong(o, a, l, n, operation, opcode) {
-        return Verdict::Broken(13);
+        return Err(Fault::Broken(13));
     }
-    Verdict::Holds
+    Ok(())
 }
 
 // The arm, on the view's type.
@@ -361,8 +361,8 @@ pub fn view_access(
     ensures { result ≡ view_arm_in t.now v.now o.now a.now l.now sheet.now n operation }
 {
     let opcode = tables::opcode(o, n, operation);
-    let Typed::By(id) = lookups::operand_type(v, o, l, n, operation, view_place(opcode)) else {
-        return Verdict::Broken(1);
+    let Some(id) = lookups::operand_type(v, o, l, n, operation, view_place(opcode)) else {
+        return Err(Fault::Broken(1));
     };
     view_rule(t, v, o, a, l, sheet, n, operation, opcode, id)
 }

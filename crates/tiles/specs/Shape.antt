@@ -2,7 +2,7 @@
 use Rattle.std.specs.Prelude.{ℕ, Bool, true, false, not, cond, ◌&&◌, ◌||◌, List, [], ◌∷◌, eqb, ℤ, pos, negsuc}
 use Rattle.std.specs.Int.Signed.{lt_z, le_z, quot_z, rem_z}
 use Rattle.arith.specs.Product.{product_of}
-use Rattle.std.specs.Prelude.{Option, Some, None}
+use Rattle.std.specs.Prelude.{Option, Some, None, is_none}
 use Rattle.tiles.specs.Tile.{dims_of, rank_of, dim_of, same_element}
 use Rattle.tiles.specs.declared.Tile.{Tile}
 
@@ -66,8 +66,7 @@ count_of t = product_of (dims_of t)
 
 -- it is outside i64
 abbrev pub has_left : Option ℤ → Bool
-has_left (Some p) = false
-has_left None = true
+has_left p = is_none p
 
 -- two products that are i64s, and the same
 abbrev pub same_product : Option ℤ → Option ℤ → Bool

@@ -7,12 +7,12 @@ ghost use Rattle.arith.specs.Signed.{signed_of};
 ghost use Rattle.cells.specs.Lists.{mem};
 ghost use Rattle.tiles.specs.Kind.{is_integer, bits_in};
 ghost use Rattle.tiles.specs.Tile.{no_tile, eight_of, cells_of, row_tile, tile_row, seen_in, view_in, rank_of, dim_of, dims_of, is_tile, is_number, is_pointer, has_kind, same_scalar, same_element, points_to, is_integers, is_integers_or_pointers};
-ghost use Rattle.tiles.specs.Shape.{eq_z, any_pair, all_pairs, same_dim, same_rank, same_shape, same_tile, undivided_by, is_uneven, stretches_to, is_stretched, quotient_of, count_of, has_left, same_product};
+ghost use Rattle.tiles.specs.Shape.{eq_z, any_pair, all_pairs, same_dim, same_rank, same_shape, same_tile, undivided_by, is_uneven, stretches_to, is_stretched, quotient_of, count_of, same_product};
 ghost use Rattle.tiles.specs.Rules.{same_bits, is_bitcast, is_reshape, is_broadcast, has_axes, is_permutation, moved_from, is_permuted, is_packable, bit_count_of, in_bytes, is_packed, atomic_differs, is_word, is_wrong_mask, outside_dim, is_group_outside, is_groups_outside, is_power_base, is_power_exponent, is_no_part, is_index, is_axis_index};
 ghost use Rattle.tiles.specs.Mma.{row_of, column_of, mma_ranks_differ, mma_dims_differ, is_mma_pair, is_mma_kinds, scale_ranks_differ, scale_dims_differ, vector_of, is_scaled, is_scale_kinds};
 
 use cells::Span;
-use tables::Counts;
+use tables::Tables;
 
 // The kinds of elements.
 pub const I1: u64 = 0;
@@ -133,26 +133,32 @@ fn row_tile(form: u64, row: &[u64]) -> Tile
 }
 
 // The cells of a type, as far as they go; none of an id that is no type.
-fn type_row(t: &[u64], n: Counts, id: u64) -> &[u64]
-    ensures { result.now ≡ cells_of t.now n id }
+fn type_row<'a>(x: &Tables<'a>, id: u64) -> &'a [u64]
+    ensures { result.now ≡ cells_of x.now.t x.now.counts id }
 {
-    if id < n.types {
-        return cells::part_at(t, tables::TYPE_CELLS, id, 0, tables::TYPE_CELLS);
+    if id < x.counts().types {
+        return cells::part_at(
+            x.type_cells(),
+            tables::TYPE_CELLS,
+            id,
+            0,
+            tables::TYPE_CELLS,
+        );
     }
-    cells::entries(t, Span { start: 0, len: 0 })
+    &[]
 }
 
 // The cells of a type that is a tile; none of any other.
-pub fn seen_row<'a>(t: &'a [u64], sheet: &[u64], n: Counts, id: u64) -> &'a [u64]
-    ensures { result.now ≡ seen_in t.now sheet.now n id }
+pub fn seen_row<'a>(x: &Tables<'a>, sheet: &[u64], id: u64) -> &'a [u64]
+    ensures { result.now ≡ seen_in x.now.t sheet.now x.now.counts id }
 {
-    let row = type_row(t, n, id);
+    let row = type_row(x, id);
     let form = cells::at(row, 0);
     let seen = (cells::at(row, 2) == 0) | tables::tile_through(sheet);
     if ((form == 1) | (form == 2)) & seen {
         return row;
     }
-    cells::entries(row, Span { start: 0, len: 0 })
+    &[]
 }
 
 // The tile that such cells are; none where there are none.
@@ -163,10 +169,10 @@ pub fn tile_of(row: &[u64]) -> Tile
 }
 
 // The tile that a view takes and gives.
-pub fn view_tile(t: &[u64], n: Counts, id: u64) -> Tile
-    ensures { result ≡ view_in t.now n id }
+pub fn view_tile(x: &Tables<'_>, id: u64) -> Tile
+    ensures { result ≡ view_in x.now.t x.now.counts id }
 {
-    let row = type_row(t, n, id);
+    let row = type_row(x, id);
     let form = cells::at(row, 0);
     if (4 <= form) & (form <= 6) {
         return row_tile(1, row);
@@ -370,26 +376,13 @@ pub fn count(t: Tile) -> Option<i64>
     arith::product_of(&dims[..n])
 }
 
-// A product that is no i64.
-pub fn has_left(p: Option<i64>) -> bool
-    ensures { result ≡ has_left p }
-{
-    match p {
-        Some(_) => false,
-        None => true,
-    }
-}
-
 // Two products that are i64s, and the same.
 pub fn same_product(p: Option<i64>, q: Option<i64>) -> bool
     ensures { result ≡ same_product p q }
 {
-    let Some(x) = p else {
-        return false;
-    };
-    match q {
-        Some(y) => x == y,
-        None => false,
+    match (p, q) {
+        (Some(x), Some(y)) => x == y,
+        _ => false,
     }
 }
 

@@ -13,22 +13,22 @@ returns-in_default c =
 pub returns-in_default-along : goal.returns-in_default-along
 unfolding group_rule
 returns-in_default-along c =
-    rw (c.in_default-along.is, c.in-Number.is)
+    rw (c.in_default-along.is, c.in-Some.is)
 
 pub returns-then-not-is_tile : goal.returns-then-not-is_tile
 unfolding group_rule
 returns-then-not-is_tile c =
-    rw (c.in-Number.is, c.in-Number-along.is)
+    rw (c.in-Some.is, c.in-Some-along.is)
     (sym (fails _ _ (ap not (sym c.is_tile.ensures ∙ c.if-not-is_tile.true))))
 
 pub returns-then-group_outside : goal.returns-then-group_outside
 unfolding group_rule
 returns-then-group_outside c =
-    rw (c.in-Number.is, c.in-Number-along.is)
+    rw (c.in-Some.is, c.in-Some-along.is)
     (sym (passes _ _ (ap not (sym c.is_tile.ensures ∙ c.if-not-is_tile.false)) ∙ fails _ _ (sym c.group_outside.ensures ∙ c.if-group_outside.true)))
 
 pub returns : goal.returns
 unfolding group_rule
 returns c =
-    rw (c.in-Number.is, c.in-Number-along.is)
+    rw (c.in-Some.is, c.in-Some-along.is)
     (sym (passes _ _ (ap not (sym c.is_tile.ensures ∙ c.if-not-is_tile.false)) ∙ passes _ _ (sym c.group_outside.ensures ∙ c.if-group_outside.false)))

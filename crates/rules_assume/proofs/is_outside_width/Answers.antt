@@ -6,13 +6,13 @@ use mir.Facts.{to_z-of_z}
 use Rattle.rules_assume.specs.Assume.{is_outside_width}
 use Rattle.rules_assume.proofs.is_outside_width.Goals as goal
 
-pub returns-in-Number : goal.returns-in-Number
+pub returns-in-Some : goal.returns-in-Some
 unfolding is_outside_width
-returns-in-Number c =
+returns-in-Some c =
     let f : SFits w64 c.signed.result = search rules in
-    rw (c.in-Number.is, simp (to_z-of_z f) at c.fits_width.ensures, c.signed.ensures)
+    rw (c.in-Some.is, simp (to_z-of_z f) at c.fits_width.ensures, c.signed.ensures)
 
-pub returns-in-Absent : goal.returns-in-Absent
+pub returns-in-None : goal.returns-in-None
 unfolding is_outside_width
-returns-in-Absent c =
-    rw c.in-Absent.is
+returns-in-None c =
+    rw c.in-None.is

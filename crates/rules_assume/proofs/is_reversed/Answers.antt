@@ -12,15 +12,15 @@ unfolding is_reversed
 returns-in_default c =
     rw c.in_default.is
 
-pub returns-in-Number-ub : goal.returns-in-Number-ub
+pub returns-in-Some-ub : goal.returns-in-Some-ub
 unfolding is_reversed
-returns-in-Number-ub c =
+returns-in-Some-ub c =
     let f : SFits w64 c.signed.result = search rules in
-    let g : SFits w64 c.signed-in-Number-ub.result = search rules in
-    rw (c.in-Number-ub.is, c.in-Number.is)
-    (simp (to_z-of_z f, to_z-of_z g) at c.less.ensures ∙ rw (c.signed.ensures, c.signed-in-Number-ub.ensures))
+    let g : SFits w64 c.signed-in-Some-ub.result = search rules in
+    rw (c.in-Some-ub.is, c.in-Some.is)
+    (simp (to_z-of_z f, to_z-of_z g) at c.less.ensures ∙ rw (c.signed.ensures, c.signed-in-Some-ub.ensures))
 
-pub returns-in-Absent : goal.returns-in-Absent
+pub returns-in-None : goal.returns-in-None
 unfolding is_reversed
-returns-in-Absent c =
-    rw (c.in-Absent.is, c.in-Number.is)
+returns-in-None c =
+    rw (c.in-None.is, c.in-Some.is)

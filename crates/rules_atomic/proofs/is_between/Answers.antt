@@ -2,12 +2,12 @@
 use Rattle.rules_atomic.specs.Arm.{is_between}
 use Rattle.rules_atomic.proofs.is_between.Goals as goal
 
-pub returns-in-Number : goal.returns-in-Number
+pub returns-in-Some : goal.returns-in-Some
 unfolding is_between
-returns-in-Number c =
-    rw c.in-Number.is
+returns-in-Some c =
+    rw c.in-Some.is
 
-pub returns-in-Absent : goal.returns-in-Absent
+pub returns-in-None : goal.returns-in-None
 unfolding is_between
-returns-in-Absent c =
-    rw c.in-Absent.is
+returns-in-None c =
+    rw c.in-None.is

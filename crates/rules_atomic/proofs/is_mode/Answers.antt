@@ -2,12 +2,12 @@
 use Rattle.rules_atomic.specs.Arm.{is_mode}
 use Rattle.rules_atomic.proofs.is_mode.Goals as goal
 
-pub returns-in-Number : goal.returns-in-Number
+pub returns-in-Some : goal.returns-in-Some
 unfolding is_mode
-returns-in-Number c =
-    rw c.in-Number.is c.takes_kind.ensures
+returns-in-Some c =
+    rw c.in-Some.is c.takes_kind.ensures
 
-pub returns-in-Absent : goal.returns-in-Absent
+pub returns-in-None : goal.returns-in-None
 unfolding is_mode
-returns-in-Absent c =
-    rw c.in-Absent.is
+returns-in-None c =
+    rw c.in-None.is

@@ -1,11 +1,11 @@
 -- `alloca` meets its contract: each return by the tests that led to it.
+use Rattle.std.specs.Prelude.{Option}
 use mathlib.Core.Path.{◌≡◌, sym}
 use Prim.Native.Nat.{ℕ}
 use mathlib.Core.List.{List}
 use Rattle.tables.specs.declared.Counts.{Counts}
 use Rattle.tiles.specs.Tile.{tile_row}
 use Rattle.tiles.specs.declared.Tile.{Tile}
-use Rattle.lookups.specs.declared.Typed.{Typed}
 use Rattle.lookups.specs.Typed.{row_by, result_type_in, result_tile_in}
 use Rattle.lookups.specs.Verdict.{fail_if}
 use Rattle.lookups.proofs.Rows.{made}
@@ -13,7 +13,7 @@ use Rattle.rules_small.specs.Memory.{alloca}
 use Rattle.rules_small.proofs.alloca.Goals as goal
 
 -- the tile that is made of the cells of the first result's type is the result
-result_is : (t o l sheet : List ℕ) (n : Counts) (i : ℕ) {typed : Typed} {row : List ℕ} {tile : Tile} → typed ≡ result_type_in o l n i → row ≡ row_by t sheet n typed → tile ≡ tile_row row → result_tile_in t o l sheet n i ≡ tile
+result_is : (t o l sheet : List ℕ) (n : Counts) (i : ℕ) {typed : Option ℕ} {row : List ℕ} {tile : Tile} → typed ≡ result_type_in o l n i → row ≡ row_by t sheet n typed → tile ≡ tile_row row → result_tile_in t o l sheet n i ≡ tile
 unfolding result_tile_in
 result_is t o l sheet n i {typed} e f g = sym (made t sheet n typed (result_type_in o l n i) e f g)
 

@@ -1,4 +1,5 @@
 -- `f_to_f` meets its contract: each return by the tests that led to it.
+use Rattle.std.specs.Prelude.{Option}
 use mathlib.Core.Path.{◌≡◌, sym}
 use borrow.Author.Tests.{eq-eqb, ne_eqb}
 use Prim.Native.Nat.{ℕ}
@@ -6,7 +7,6 @@ use mathlib.Core.List.{List}
 use Rattle.tables.specs.declared.Counts.{Counts}
 use Rattle.tiles.specs.Tile.{tile_row}
 use Rattle.tiles.specs.declared.Tile.{Tile}
-use Rattle.lookups.specs.declared.Typed.{Typed}
 use Rattle.lookups.specs.Typed.{row_by, operand_type_in, result_type_in, operand_tile_in, result_tile_in}
 use Rattle.lookups.specs.Verdict.{fail_if}
 use Rattle.lookups.proofs.Rows.{made}
@@ -14,11 +14,11 @@ use Rattle.rules_small.specs.Rounding.{f_to_f}
 use Rattle.rules_small.proofs.f_to_f.Goals as goal
 
 -- the tiles that are made of the cells of the types of operand k and of the first result are theirs
-operand_is : (t v o l sheet : List ℕ) (n : Counts) (i k : ℕ) {typed : Typed} {row : List ℕ} {tile : Tile} → typed ≡ operand_type_in v o l n i k → row ≡ row_by t sheet n typed → tile ≡ tile_row row → operand_tile_in t v o l sheet n i k ≡ tile
+operand_is : (t v o l sheet : List ℕ) (n : Counts) (i k : ℕ) {typed : Option ℕ} {row : List ℕ} {tile : Tile} → typed ≡ operand_type_in v o l n i k → row ≡ row_by t sheet n typed → tile ≡ tile_row row → operand_tile_in t v o l sheet n i k ≡ tile
 unfolding operand_tile_in
 operand_is t v o l sheet n i k {typed} e f g = sym (made t sheet n typed (operand_type_in v o l n i k) e f g)
 
-result_is : (t o l sheet : List ℕ) (n : Counts) (i : ℕ) {typed : Typed} {row : List ℕ} {tile : Tile} → typed ≡ result_type_in o l n i → row ≡ row_by t sheet n typed → tile ≡ tile_row row → result_tile_in t o l sheet n i ≡ tile
+result_is : (t o l sheet : List ℕ) (n : Counts) (i : ℕ) {typed : Option ℕ} {row : List ℕ} {tile : Tile} → typed ≡ result_type_in o l n i → row ≡ row_by t sheet n typed → tile ≡ tile_row row → result_tile_in t o l sheet n i ≡ tile
 unfolding result_tile_in
 result_is t o l sheet n i {typed} e f g = sym (made t sheet n typed (result_type_in o l n i) e f g)
 

@@ -9,7 +9,7 @@ unfolding f_to_i fail_if
 returns-in-6 c =
     rw (
       ← c.integer.ensures,
-      c.in-Number.is,
+      c.in-Some.is,
       c.in-6.is,
     )
 
@@ -18,11 +18,11 @@ unfolding f_to_i fail_if
 returns-in_default c =
     rw (
       ← c.integer.ensures,
-      c.in-Number.is,
+      c.in-Some.is,
       ne_eqb _ _ c.in_default.in_default-own.rest.1,
     )
 
-pub returns-in-Absent : goal.returns-in-Absent
+pub returns-in-None : goal.returns-in-None
 unfolding f_to_i fail_if
-returns-in-Absent c =
-    rw (← c.integer.ensures, c.in-Absent.is)
+returns-in-None c =
+    rw (← c.integer.ensures, c.in-None.is)

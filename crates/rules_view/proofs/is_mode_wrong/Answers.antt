@@ -19,6 +19,6 @@ returns c =
     rw (
       eq-eqb _ _ c.if-opcode-ne-ATOMIC_RED_VIEW.false,
       ← c.integer.ensures,
-      c.in-Number.is,
+      c.in-Some.is,
       c.takes_kind.ensures,
     )

@@ -2,12 +2,12 @@
 use Rattle.rules_view.specs.View.{is_other_kind}
 use Rattle.rules_view.proofs.is_other_kind.Goals as goal
 
-pub returns-in-Number : goal.returns-in-Number
+pub returns-in-Some : goal.returns-in-Some
 unfolding is_other_kind
-returns-in-Number c =
-    rw c.in-Number.is
+returns-in-Some c =
+    rw c.in-Some.is
 
-pub returns-in-Absent : goal.returns-in-Absent
+pub returns-in-None : goal.returns-in-None
 unfolding is_other_kind
-returns-in-Absent c =
-    rw c.in-Absent.is
+returns-in-None c =
+    rw c.in-None.is

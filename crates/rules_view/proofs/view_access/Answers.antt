@@ -19,6 +19,6 @@ returns c =
       ← c.opcode-opcode.ensures,
       ← c.view_place.ensures,
       ← c.operand_type.ensures,
-      c.in-By.is,
+      c.in-Some.is,
     )
     c.view_rule.ensures
