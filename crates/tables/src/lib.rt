@@ -1,7 +1,7 @@
 // The paper's tables: their sizes, where things stand in the lent slices, and the answers.
 #![tactic(auto, unfolding(crate::specs::Layout::opcode_in, crate::specs::Layout::result_types_span_in, crate::specs::Layout::result_types_in, crate::specs::Layout::operands_span_in, crate::specs::Layout::operands_in, crate::specs::Layout::regions_span_in, crate::specs::Layout::regions_in, crate::specs::Layout::attributes_span_in, crate::specs::Layout::attributes_in, crate::specs::Layout::arguments_span_in, crate::specs::Layout::arguments_in, crate::specs::Layout::operations_span_in, crate::specs::Layout::operations_in, crate::specs::Layout::blocks_span_in, crate::specs::Layout::blocks_in, crate::specs::Layout::functions_in, crate::specs::Layout::value_type_in, crate::specs::Layout::claim_flag_in, crate::specs::Layout::claim_in, crate::specs::Layout::form_in, crate::specs::Layout::kind_in, crate::specs::Layout::pointer_in, crate::specs::Layout::padded_in, crate::specs::Layout::sparse_in, crate::specs::Layout::rank_in, crate::specs::Layout::dims_in, crate::specs::Layout::name_in, crate::specs::Layout::attribute_form_in, crate::specs::Layout::numbers_span_in, crate::specs::Layout::numbers_in, crate::specs::Layout::absent_in, crate::specs::Sheet::fixed_flag_in, crate::specs::Sheet::fixed_count_in, crate::specs::Sheet::mode_mask_in, crate::specs::Sheet::contained_mask_in, crate::specs::Sheet::byte_width_in, crate::specs::Sheet::tile_flag_in, crate::specs::Sheet::tile_through_in))]
 
-ghost use Rattle.std.specs.Prelude.{◌≡◌, ◌+◌, ◌*◌, Bool, cond, ltb, get_or, take};
+ghost use Rattle.std.specs.Prelude.{◌≡◌, ◌+◌, ◌*◌, ◌^◌, ◌<◌, Bool, cond, ltb, get_or, take};
 ghost use Rattle.cells.specs.Cell.{span_at};
 ghost use Rattle.tables.specs.Layout.{counted_cell, counted_span};
 ghost use Rattle.tables.specs.Tables.{cut, opcode, result_types_span, result_types, operands_span, operands, regions_span, regions, attributes_span, arguments_span, arguments, operations_span, operations, blocks_span, blocks, functions, value_type, claim_flag, claim, type_form, type_kind, type_pointer, type_padded, type_sparse, type_rank, type_dims, attribute_name, attribute_form, numbers_span, attribute_numbers, attribute_absent};
@@ -467,7 +467,8 @@ impl<'a> Tables<'a> {
 
     // The same, as far as the attributes go.
     pub fn attributes(&self, operation: u64) -> Span
-        ensures { result ≡ attributes_in self.now.o self.now.counts operation }
+        ensures rows { result ≡ attributes_in self.now.o self.now.counts operation }
+        ensures fits { result.start + result.len < 2 ^ 64 }
     {
         let span = self.attributes_span(operation);
         let rest = self.counts.attributes.saturating_sub(span.start);
