@@ -1,3 +1,4 @@
 pub mod Signed
 pub mod Product
 pub mod Power
+pub mod Bits

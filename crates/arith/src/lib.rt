@@ -2,10 +2,11 @@
 // remainders, powers of two. Every function answers on every input.
 #![tactic(auto)]
 
-ghost use Rattle.std.specs.Prelude.{◌≡◌};
+ghost use Rattle.std.specs.Prelude.{◌≡◌, ◌≤◌};
 ghost use Rattle.arith.specs.Signed.{signed_of, bits_of, fits_width, remainder_of};
 ghost use Rattle.arith.specs.Product.{times_of, product_of};
 ghost use Rattle.arith.specs.Power.{is_power_of_two};
+ghost use Rattle.arith.specs.Bits.{has_bit};
 
 // The number whose two's complement these bits are.
 pub fn signed(bits: u64) -> i64
@@ -71,4 +72,13 @@ pub fn power_of_two(x: u64) -> bool
     ensures { result ≡ is_power_of_two x }
 {
     x.is_power_of_two()
+}
+
+// Bit k of a mask is set, of as many bits as its width says.
+#[tactic(auto, unfolding(crate::specs::Bits::has_bit))]
+pub fn has_bit(width: u64, mask: u64, k: u64) -> bool
+    requires { width ≤ 64 }
+    ensures { result ≡ has_bit width mask k }
+{
+    k < width && (mask >> k) % 2 == 1
 }
