@@ -1,10 +1,11 @@
 // What a rule reads of an operation: its attributes by name and form, and the types and tiles of its operands and its result.
 #![tactic(auto)]
 
-ghost use Rattle.std.specs.Prelude.{◌≡◌};
+ghost use Rattle.std.specs.Prelude.{◌≡◌, Ok};
 ghost use Rattle.tiles.specs.Tile.{has_kind};
 ghost use Rattle.lookups.specs.Lookup.{is_taken, first_in, is_entry, entry_of, integer_of, permutation_of, segments_of, segment_of, flushes};
 ghost use Rattle.lookups.specs.Typed.{operand_type, result_type, row_by, operand_tile, result_tile};
+ghost use Rattle.lookups.specs.Verdict.{fail_if, leave_if};
 
 use tables::Tables;
 use tiles::Tile;
@@ -18,6 +19,28 @@ pub enum Fault {
 
 // What an arm of the rules answers: all kept, or the first fault.
 pub type Verdict = Result<(), Fault>;
+
+// A line of an arm: where the test holds, the reason is broken.
+#[tactic(auto, unfolding(crate::specs::Verdict::fail_if))]
+pub fn fail_if(test: bool, reason: u64) -> Verdict
+    ensures { result ≡ fail_if test reason (Ok tt) }
+{
+    if test {
+        return Err(Fault::Broken(reason));
+    }
+    Ok(())
+}
+
+// Where the test holds, a product leaves i64.
+#[tactic(auto, unfolding(crate::specs::Verdict::leave_if))]
+pub fn leave_if(test: bool) -> Verdict
+    ensures { result ≡ leave_if test (Ok tt) }
+{
+    if test {
+        return Err(Fault::Leaves);
+    }
+    Ok(())
+}
 
 // What a lookup takes, besides the name.
 #[derive(Clone, Copy)]
