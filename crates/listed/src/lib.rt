@@ -1,14 +1,13 @@
 // Code 2: the lowest operation, block or region that is listed twice, in one list or two.
 #![tactic(auto)]
 
-ghost use Rattle.std.specs.Prelude.{◌≡◌, []};
+ghost use Rattle.std.specs.Prelude.{◌≡◌, ℕ, List, ◌<◌};
 ghost use Rattle.cells.specs.Lists.{below, flat};
-ghost use Rattle.tables.specs.Layout.{functions_in, operations_in, blocks_in, regions_in};
-ghost use Rattle.tables.specs.Tables.{nest, cut};
+ghost use Rattle.tables.specs.Tables.{functions, cut};
 ghost use Rattle.listed.specs.Marks.{once_more, mark, mark_all, lowest_marked, lowest_seen};
-ghost use Rattle.listed.specs.Twice.{listed_operations, listed_blocks, listed_regions, refused, listed_twice};
+ghost use Rattle.listed.specs.Twice.{listed_operations, refused, listed_twice};
 
-use tables::{Answer, Counts, Refusal};
+use tables::{Answer, Refusal, Tables};
 
 // A mark, once more.
 fn once_more(m: u64) -> u64
@@ -29,55 +28,27 @@ fn add_mark(marks: &mut [u64], x: u64)
 pub fn mark_list(xs: &[u64], marks: &mut [u64])
     ensures { marks.new ≡ mark_all marks.old xs.now }
 {
-    let mut i = 0;
-    while i < xs.len() {
-        add_mark(marks, xs[i]);
-        i += 1;
+    for &x in xs {
+        add_mark(marks, x);
+    }
+}
+
+// One more of each entry of each of so many lists.
+pub fn mark_lists<'a, F: Fn(u64) -> &'a [u64]>(count: u64, list: F, marks: &mut [u64])
+    requires { F.IsAlwaysCallable list }
+    ensures { (entries : ℕ → List ℕ) → ((i : ℕ) (r : _) → i < count → F.post list i r → r.now ≡ entries i) → marks.new ≡ mark_all marks.old (flat entries (below count)) }
+{
+    for i in 0..count {
+        mark_list(list(i), marks);
     }
 }
 
 // One more of each function's operation.
-fn mark_functions(f: &[u32], n: Counts, marks: &mut [u64])
-    ensures { marks.new ≡ mark_all marks.old (functions_in f.now n) }
+fn mark_functions(x: &Tables<'_>, marks: &mut [u64])
+    ensures { marks.new ≡ mark_all marks.old (functions x.now) }
 {
-    let end = cells::least(n.functions, f.len() as u64);
-    let mut i = 0;
-    while i < end {
-        add_mark(marks, tables::function(f, n, i));
-        i += 1;
-    }
-}
-
-// One more of each operation of each block.
-fn mark_operations(b: &[u32], l: &[u64], n: Counts, marks: &mut [u64])
-    ensures { marks.new ≡ mark_all marks.old (flat (operations_in b.now l.now n) (below n.blocks)) }
-{
-    let mut j = 0;
-    while j < n.blocks {
-        mark_list(tables::operations(b, l, n, j), marks);
-        j += 1;
-    }
-}
-
-// One more of each block of each region.
-fn mark_blocks(r: &[u32], l: &[u64], n: Counts, marks: &mut [u64])
-    ensures { marks.new ≡ mark_all marks.old (flat (blocks_in r.now l.now n) (below n.regions)) }
-{
-    let mut k = 0;
-    while k < n.regions {
-        mark_list(tables::blocks(r, l, n, k), marks);
-        k += 1;
-    }
-}
-
-// One more of each region of each operation.
-fn mark_regions(o: &[u32], l: &[u64], n: Counts, marks: &mut [u64])
-    ensures { marks.new ≡ mark_all marks.old (flat (regions_in o.now l.now n) (below n.operations)) }
-{
-    let mut i = 0;
-    while i < n.operations {
-        mark_list(tables::regions(o, l, n, i), marks);
-        i += 1;
+    for &id in x.functions() {
+        add_mark(marks, u64::from(id));
     }
 }
 
@@ -85,50 +56,41 @@ fn mark_regions(o: &[u32], l: &[u64], n: Counts, marks: &mut [u64])
 fn lowest_marked(marks: &[u64], n: u64, list: u64) -> Answer
     ensures { result ≡ refused list (lowest_marked marks.now n) }
 {
-    let mut id = 0;
-    while id < n {
+    for id in 0..n {
         if 1 < cells::at(marks, id) {
             return Err(Refusal::ListedTwice { id, list });
         }
-        id += 1;
     }
     Ok(())
 }
 
 // An operation that functions and blocks list twice.
-fn twice_operations(b: &[u32], f: &[u32], l: &[u64], n: Counts) -> Answer
-    ensures { result ≡ refused 0 (lowest_seen 2048 (listed_operations (nest [] b.now [] f.now l.now n)) n.operations) }
+fn twice_operations(x: &Tables<'_>) -> Answer
+    ensures { result ≡ refused 0 (lowest_seen 2048 (listed_operations x.now) x.now.counts.operations) }
 {
     let mut marks = [0u64; 2048];
-    mark_functions(f, n, &mut marks);
-    mark_operations(b, l, n, &mut marks);
-    lowest_marked(&marks, n.operations, 0)
+    mark_functions(x, &mut marks);
+    mark_lists(x.counts().blocks, |j| x.operations(j), &mut marks);
+    lowest_marked(&marks, x.counts().operations, 0)
 }
 
-// A block that regions list twice.
-fn twice_blocks(r: &[u32], l: &[u64], n: Counts) -> Answer
-    ensures { result ≡ refused 1 (lowest_seen 512 (listed_blocks (nest [] [] r.now [] l.now n)) n.blocks) }
+// One of so many blocks or regions that so many lists have twice.
+fn twice_listed<'a, F: Fn(u64) -> &'a [u64]>(count: u64, list: F, ids: u64, kind: u64) -> Answer
+    requires { F.IsAlwaysCallable list }
+    ensures { (entries : ℕ → List ℕ) → ((i : ℕ) (r : _) → i < count → F.post list i r → r.now ≡ entries i) → result ≡ refused kind (lowest_seen 512 (flat entries (below count)) ids) }
 {
     let mut marks = [0u64; 512];
-    mark_blocks(r, l, n, &mut marks);
-    lowest_marked(&marks, n.blocks, 1)
-}
-
-// A region that operations list twice.
-fn twice_regions(o: &[u32], l: &[u64], n: Counts) -> Answer
-    ensures { result ≡ refused 2 (lowest_seen 512 (listed_regions (nest o.now [] [] [] l.now n)) n.regions) }
-{
-    let mut marks = [0u64; 512];
-    mark_regions(o, l, n, &mut marks);
-    lowest_marked(&marks, n.regions, 2)
+    mark_lists(count, list, &mut marks);
+    lowest_marked(&marks, ids, kind)
 }
 
 // What is listed twice: operations before blocks before regions, the lowest id.
-pub fn listed_twice(o: &[u32], b: &[u32], r: &[u32], f: &[u32], l: &[u64], n: Counts) -> Answer
-    ensures { result ≡ listed_twice (cut (nest o.now b.now r.now f.now l.now n)) }
+pub fn listed_twice(x: &Tables<'_>) -> Answer
+    ensures { result ≡ listed_twice (cut x.now) }
 {
-    let m = tables::cut_counts(n);
-    twice_operations(b, f, l, m)?;
-    twice_blocks(r, l, m)?;
-    twice_regions(o, l, m)
+    let x = x.cut();
+    let n = x.counts();
+    twice_operations(&x)?;
+    twice_listed(n.regions, |k| x.blocks(k), n.blocks, 1)?;
+    twice_listed(n.operations, |i| x.regions(i), n.regions, 2)
 }

@@ -19,8 +19,9 @@ use Rattle.tables.specs.Answer.{and_then, Answer}
 use Rattle.tables.specs.Layout.{counted_span, result_types_span_in, operands_span_in, regions_span_in, attributes_span_in, arguments_span_in, operations_span_in, blocks_span_in, blocks_in, numbers_span_in, numbers_in, result_types_in, operands_in, regions_in, arguments_in, operations_in, claim_in, claim_flag_in, functions_in}
 use Rattle.tables.specs.Sizes.{max_types, max_values, max_operations, max_attributes, max_blocks, max_regions, max_functions, opcodes, type_table, value_table, operation_table, attribute_table, block_table, region_table, function_table}
 use Rattle.tables.specs.Tables.{Tables, cut, functions, opcode, value_type, claim, claim_flag, attribute_name, attribute_form, attribute_numbers, attribute_absent, result_types_span, operands_span, regions_span, attributes_span, numbers_span, arguments_span, operations_span, blocks_span}
-use Rattle.tables.specs.declared.Claim.TheVariants.{Result, Nothing}
-use Rattle.std.specs.Prelude.{Ok, Err}
+use Rattle.std.specs.Prelude as std
+use Rattle.tables.specs.declared.Claim.{Claim}
+use Rattle.std.specs.Prelude.{Ok, Err, Some, None}
 use Rattle.ranges.specs.Entry.{all_below, good_type, good_claim, good_value, good_operation, good_numbers, good_attribute, good_block, good_region}
 use Rattle.ranges.specs.Range.{sum, room_at, listed_by_operation, listed_by_attribute, listed_by_block, listed_by_region, before_attributes, before_blocks, before_regions, stands, refused, first_bad, table_ranges}
 use Rattle.ranges.specs.Part.{good_list}
@@ -246,14 +247,14 @@ module _ (x : Tables) (e : table_ranges x ≡ Ok tt) where
       let q = both (ltb (value_type x v) x.counts.types && ltb (claim_flag x v) 2) (good_claim x (claim x v)) (every_value v h) in
       ((both (ltb (value_type x v) x.counts.types) (ltb (claim_flag x v) 2) q.0).0, q.1)
 
-  no_claim : (v : ℕ) → x.counts.values ≤ v → claim x v ≡ Nothing
+  no_claim : (v : ℕ) → x.counts.values ≤ v → claim x v ≡ None
   unfolding claim_in claim_flag_in
   no_claim v h = rw (le-ltb v x.counts.values h)
 
-  claims_held : (v i k : ℕ) → claim x v ≡ Result i k → i < x.counts.operations
+  claims_held : (v i k : ℕ) → claim x v ≡ Some (record { operation = i; index = k }) → i < x.counts.operations
   claims_held v i k q = ⊎_elim
       (λ h. ltb-true i x.counts.operations (sym (ap (good_claim x) q) ∙ (value_tests v h).1))
-      (λ h. absurd (let z : Nothing ≡ Result i k = sym (no_claim v h) ∙ q in let y : ◌≡◌ {A = ℕ} 0 1 = cc in omega arith))
+      (λ h. absurd (let z : ◌≡◌ {A = std.Option Claim} None (Some (record { operation = i; index = k })) = sym (no_claim v h) ∙ q in let y : ◌≡◌ {A = ℕ} 0 1 = cc in omega arith))
       (lt_or_ge v x.counts.values)
 
   functions_held : x.counts.functions ≤ length x.f

@@ -11,9 +11,7 @@ use Rattle.cells.proofs.Rows.{lt_or_ge, row_past, row_within}
 use Rattle.tables.specs.Layout.{result_types_in, operands_in, regions_in, arguments_in, operations_in}
 use Rattle.tables.specs.Sizes.{opcodes}
 use Rattle.tables.specs.Tables.{Tables, opcode, result_types_span, operands_span, regions_span, attributes_span, arguments_span, operations_span}
-use Rattle.tables.specs.declared.Claim.{Claim}
-use Rattle.tables.specs.declared.Claim.TheVariants.{Result, Nothing}
-use Rattle.ranges.specs.Entry.{good_claim, good_operation, good_block}
+use Rattle.ranges.specs.Entry.{good_operation, good_block}
 use Rattle.ranges.specs.Part.{good_list}
 
 -- a sum fits where its second part fits what the first leaves
@@ -40,11 +38,6 @@ module _ (u a b m : ℕ) where
 
   pub add_three : (c : ℕ) → min (min (min (u + a) m + b) m + c) m ≡ min (u + (a + b + c)) m
   add_three c = omega arith
-
--- a claim is judged by the number of operations alone
-pub claim_same : (x y : Tables) → x.counts.operations ≡ y.counts.operations → (c : Claim) → good_claim x c ≡ good_claim y c
-claim_same x y e Nothing = refl
-claim_same x y e (Result i k) = ap (ltb i) e
 
 -- lists judged one by one, each whole and then in range
 pub block_tests : (x : Tables) (j : ℕ)

@@ -2,13 +2,12 @@
 -- "Ids are ranged by the check; a form, kind, opcode, mode or flag outside its list, an unknown tag (field 1) or a number too wide is
 -- 15, in tables 1. Signed 32 bits: permutations, sparse axes, dims of forms 4 to 6; unsigned: masks 16, ids and pointer attributes 32,
 -- divisors 64; signed 64: the rest."
-use Rattle.std.specs.Prelude.{ℕ, ◌+◌, ◌-◌, ◌^◌, Bool, true, ◌&&◌, ◌||◌, cond, List, [], ◌∷◌, length, ltb, leb, eqb}
+use Rattle.std.specs.Prelude.{ℕ, ◌+◌, ◌-◌, ◌^◌, Bool, true, ◌&&◌, ◌||◌, cond, List, [], ◌∷◌, length, ltb, leb, eqb, Option, Some, None}
 use Rattle.cells.specs.declared.Span.{Span}
 use Rattle.names.specs.Names.{names, integer_form, bool_form, integers_form, bools_form, permutation_form, divisor_form, sizes_form, endpoints_form, other_form}
 use Rattle.tables.specs.Sizes.{opcodes, kinds, type_forms, max_rank}
 use Rattle.tables.specs.Tables.{Tables, opcode, result_types, operands, regions, arguments, operations, blocks, value_type, claim, claim_flag, type_form, type_kind, type_pointer, type_padded, type_sparse, type_rank, type_dims, attribute_name, attribute_form, attribute_numbers, attribute_absent, result_types_span, operands_span, regions_span, attributes_span, numbers_span, arguments_span, operations_span, blocks_span}
 use Rattle.tables.specs.declared.Claim.{Claim}
-use Rattle.tables.specs.declared.Claim.TheVariants.{Result, Nothing}
 
 -- every entry of a list has a property
 abbrev pub all : (ℕ → Bool) → List ℕ → Bool
@@ -40,9 +39,9 @@ good_type x i =
     && (ltb (type_form x i) 4 || all signed32 (type_dims x i)))
 
 -- what a value claims: any index of an operation that there is
-abbrev pub good_claim : Tables → Claim → Bool
-good_claim x Nothing = true
-good_claim x (Result i k) = ltb i x.counts.operations
+abbrev pub good_claim : Tables → Option Claim → Bool
+good_claim x None = true
+good_claim x (Some c) = ltb c.operation x.counts.operations
 
 unfoldable pub good_value : Tables → ℕ → Bool
 good_value x i = ltb (value_type x i) x.counts.types && ltb (claim_flag x i) 2 && good_claim x (claim x i)

@@ -1,5 +1,5 @@
--- What the check of one table reads of the tables, and what a pass over a table that holds lists answers.
-use Rattle.std.specs.Prelude.{ℕ, ◌+◌, ◌^◌, Bool, ◌&&◌, not, List, [], ltb, leb, length}
+-- What the check of one table reads of the tables, and what a pass over a table answers.
+use Rattle.std.specs.Prelude.{ℕ, ◌+◌, ◌^◌, Bool, ◌&&◌, not, List, [], ltb, leb, length, suc, ◌*◌, Result, Ok, Err}
 use Rattle.std.proofs.Math.Option.{Option, some, none}
 use Rattle.cells.specs.Cell.{entries_of}
 use Rattle.cells.specs.declared.Span.{Span}
@@ -9,9 +9,11 @@ use Rattle.tables.specs.Sheet.{fixed_flag_in, fixed_count_in, mode_mask_in, cont
 use Rattle.tables.specs.declared.Counts.{Counts}
 use Rattle.tables.specs.Sizes.{opcodes, kinds, modes}
 use Rattle.ranges.specs.Entry.{all, all_below}
-use Rattle.ranges.specs.Range.{sum, room_at, stands, good_count}
-use Rattle.ranges.specs.declared.Scanned.{Scanned}
-use Rattle.ranges.specs.declared.Scanned.TheVariants.{Good, Bad}
+use Rattle.tables.specs.Answer.{Answer}
+use Rattle.tables.specs.declared.Refusal.{Refusal}
+use Rattle.tables.specs.declared.Refusal.TheVariants.{OutOfRange}
+use Rattle.ranges.specs.Range.{sum, room_at, refused, good_count}
+use Rattle.ranges.specs.declared.Pass.{Pass}
 
 -- ---- the tables as far as the entries of one of them speak of them
 
@@ -40,18 +42,25 @@ tables_of_functions f n = lent [] [] [] [] [] [] f [] n
 abbrev pub good_list : List ℕ → Span → ℕ → Bool
 good_list l s n = leb (s.start + s.len) (length l) && all_below n (entries_of l s)
 
--- ---- a pass over a table that holds lists
+-- ---- a pass over a table
+
+-- entry i is within the size and whole among the cells lent
+abbrev pub stands_in : Pass → ℕ → Bool
+stands_in t i = ltb i t.size && leb (suc i * t.width) t.cells
+
+-- the first entry that does not stand or is not good
+unfoldable pub first_of : Pass → (ℕ → Bool) → Answer
+first_of t good = refused t.table (find (λ i. not (stands_in t i && good i)) (below t.count))
 
 -- the first bad entry, or how many list entries there are up to the table's end
-abbrev pub scanned : Option ℕ → ℕ → Scanned
-scanned none used = Good used
-scanned (some i) used = Bad i
+abbrev pub scanned : ℕ → Option ℕ → ℕ → Result ℕ Refusal
+scanned table none used = Ok used
+scanned table (some i) used = Err (OutOfRange table i)
 
--- the same entries that `first_bad` refuses, `before` list entries standing before the table's own
-unfoldable pub scan : ℕ → ℕ → List ℕ → ℕ → (ℕ → Bool) → (ℕ → ℕ) → ℕ → Scanned
-scan size width cells n good listed before =
-    scanned (find (λ i. not (stands size width cells i && (good i && room_at before listed i))) (below n))
-    (before + sum listed n)
+-- the same entries that `first_bad` refuses of a table that holds lists, `before` list entries standing before its own
+unfoldable pub scan_of : Pass → (ℕ → Bool) → (ℕ → ℕ) → ℕ → Result ℕ Refusal
+scan_of t good listed before =
+    scanned t.table (find (λ i. not (stands_in t i && (good i && room_at before listed i))) (below t.count)) (before + sum listed t.count)
 
 -- ---- the sheet, by its parts
 
@@ -63,12 +72,3 @@ good_mode s m = ltb (mode_mask_in s m) (2 ^ 16)
 
 abbrev pub good_kind : List ℕ → ℕ → Bool
 good_kind s k = ltb (contained_mask_in s k) (2 ^ 16) && leb (byte_width_in s k) 8
-
-unfoldable pub good_opcodes : List ℕ → Bool
-good_opcodes s = all (good_fixed s) (below opcodes)
-
-unfoldable pub good_modes : List ℕ → Bool
-good_modes s = all (good_mode s) (below modes)
-
-unfoldable pub good_kinds : List ℕ → Bool
-good_kinds s = all (good_kind s) (below kinds)

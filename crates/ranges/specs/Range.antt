@@ -1,6 +1,7 @@
 -- Code 1: "a size exceeded, an id out of range | table number, entry". "Tables are numbered from 1 in the order T, V, O, A, B, R, F,
 -- with the sheet as 8; code 1 goes to the first table, then the first entry. Unattached entries are range-checked".
-use Rattle.std.specs.Prelude.{ℕ, zero, suc, ◌+◌, ◌*◌, ◌^◌, Bool, true, ◌&&◌, not, cond, List, length, get_or, ltb, leb, Option, Some, None, Ok, Err}
+use Rattle.std.specs.Prelude as std
+use Rattle.std.specs.Prelude.{ℕ, zero, suc, ◌+◌, ◌*◌, ◌^◌, Bool, true, ◌&&◌, not, cond, List, length, get_or, ltb, leb, Some, None, Ok, Err}
 use Rattle.std.proofs.Math.Option.{Option, some, none}
 use Rattle.cells.specs.Lists.{below, find}
 use Rattle.tables.specs.Sizes.{max_types, max_values, max_operations, max_attributes, max_blocks, max_regions, max_functions, max_entries, opcodes, kinds, modes, type_table, value_table, operation_table, attribute_table, block_table, region_table, function_table, sheet_table}
@@ -74,7 +75,7 @@ table_ranges x =
 abbrev pub sheet_cells : ℕ
 sheet_cells = 320
 
-abbrev pub good_count : Option ℕ → Bool
+abbrev pub good_count : std.Option ℕ → Bool
 good_count None = true
 good_count (Some n) = leb n 8192
 

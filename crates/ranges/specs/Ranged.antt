@@ -1,8 +1,7 @@
 -- What tables that pass code 1 have: the ids that they list name entries, the lists are whole, and no size is exceeded.
-use Rattle.std.specs.Prelude.{ℕ, ◌+◌, ◌≤◌, ◌<◌, ◌≡◌, List, length, get_or}
+use Rattle.std.specs.Prelude.{ℕ, ◌+◌, ◌≤◌, ◌<◌, ◌≡◌, List, length, get_or, Some}
 use Rattle.tables.specs.Sizes.{max_types, max_values, max_operations, max_attributes, max_blocks, max_regions, max_functions, max_entries, opcodes}
 use Rattle.tables.specs.Tables.{Tables, functions, opcode, result_types, operands, regions, arguments, operations, blocks, value_type, claim, attribute_numbers, result_types_span, operands_span, regions_span, attributes_span, numbers_span, arguments_span, operations_span, blocks_span}
-use Rattle.tables.specs.declared.Claim.TheVariants.{Result}
 use Rattle.ranges.specs.Range.{sum, listed_by_region, before_regions}
 
 -- every entry of a list is below n
@@ -21,7 +20,7 @@ pub record Ranged (x : Tables) : Type 0 where
   pub functions_fit : x.counts.functions ≤ max_functions
   -- a value's type is one of the types, and what it claims is a result of one of the operations
   pub value_types : (v : ℕ) → v < x.counts.values → value_type x v < x.counts.types
-  pub claims : (v i k : ℕ) → claim x v ≡ Result i k → i < x.counts.operations
+  pub claims : (v i k : ℕ) → claim x v ≡ Some (record { operation = i; index = k }) → i < x.counts.operations
   -- an opcode is one of the paper's
   pub opcodes_known : (i : ℕ) → i < x.counts.operations → opcode x i < opcodes
   -- every id of a list names an entry of its table

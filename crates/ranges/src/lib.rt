@@ -2,16 +2,14 @@
 // Tests are joined by `&`, which asks them all: each answers for any entry, and the code reads as the definition does.
 #![tactic(auto)]
 
-ghost use Rattle.std.specs.Prelude.{◌≡◌, ◌&&◌, suc, ◌+◌, ◌*◌, min, [], get_or, ltb, leb};
-ghost use Rattle.std.proofs.Math.Option.{some};
-ghost use Rattle.tables.specs.Sizes.{max_types, max_values, max_operations, max_attributes, max_blocks, max_regions, max_functions, max_entries, type_table, value_table, function_table};
-ghost use Rattle.tables.specs.Tables.{lent, functions};
-ghost use Rattle.ranges.specs.Entry.{all, all_below, signed32, good_type, good_claim, good_value, good_operation, good_numbers, good_attribute, good_block, good_region};
-ghost use Rattle.ranges.specs.Range.{listed_by_operation, listed_by_attribute, listed_by_block, listed_by_region, refused, first_bad, table_ranges, good_count, good_sheet, sheet_range};
-ghost use Rattle.ranges.specs.Part.{tables_of_types, tables_of_values, tables_of_operations, tables_of_attributes, tables_of_blocks, tables_of_regions, tables_of_functions, good_list, scan, good_fixed, good_kind, good_opcodes, good_modes, good_kinds};
+ghost use Rattle.std.specs.Prelude.{◌≡◌, ℕ, Bool, ◌+◌, ◌-◌, ◌^◌, ◌<◌, suc, min, length, leb};
+ghost use Rattle.tables.specs.Sizes.{max_types, max_values, max_operations, max_attributes, max_blocks, max_regions, max_functions, max_entries, type_table, value_table, operation_table, attribute_table, block_table, region_table, function_table};
+ghost use Rattle.ranges.specs.Entry.{all, all_below, signed32, within, good_type, good_claim, good_value, good_operation, good_numbers, good_attribute, good_block, good_region};
+ghost use Rattle.ranges.specs.Range.{listed_by_operation, listed_by_attribute, listed_by_block, listed_by_region, table_ranges, good_count, good_sheet, sheet_range};
+ghost use Rattle.ranges.specs.Part.{good_list, stands_in, first_of, scan_of, good_fixed, good_mode, good_kind};
 
 use cells::Span;
-use tables::{Answer, Claim, Counts, Fixed, Refusal};
+use tables::{Answer, Claim, Refusal, Tables};
 
 // The forms of a type, the opcodes, the kinds and the atomic modes are the numbers below these.
 const TYPE_FORMS: u64 = 7;
@@ -25,11 +23,151 @@ const MODES: u64 = 16;
 // The names that a rule looks up are numbered from 1 to this.
 const NAMES: u64 = 13;
 
-// A pass over a table that holds lists: the list entries up to its end, or its first bad entry.
+// A table as a pass over it sees it: its number, its size, the cells of a row, how many were lent, and how many entries count.
 #[derive(Clone, Copy)]
-enum Scanned {
-    Good(u64),
-    Bad(u64),
+pub struct Pass {
+    pub table: u64,
+    pub size: u64,
+    pub width: u64,
+    pub cells: u64,
+    pub count: u64,
+}
+
+impl Pass {
+    pub fn types(x: &Tables<'_>) -> Pass
+        ensures { result ≡ record { table = type_table; size = max_types; width = 16; cells = length x.now.t; count = x.now.counts.types } }
+    {
+        Pass {
+            table: tables::TYPE_TABLE,
+            size: tables::MAX_TYPES,
+            width: tables::TYPE_CELLS,
+            cells: x.type_cells().len() as u64,
+            count: x.counts().types,
+        }
+    }
+
+    pub fn values(x: &Tables<'_>) -> Pass
+        ensures { result ≡ record { table = value_table; size = max_values; width = 4; cells = length x.now.v; count = x.now.counts.values } }
+    {
+        Pass {
+            table: tables::VALUE_TABLE,
+            size: tables::MAX_VALUES,
+            width: tables::VALUE_CELLS,
+            cells: x.value_cells().len() as u64,
+            count: x.counts().values,
+        }
+    }
+
+    pub fn operations(x: &Tables<'_>) -> Pass
+        ensures { result ≡ record { table = operation_table; size = max_operations; width = 16; cells = length x.now.o; count = x.now.counts.operations } }
+    {
+        Pass {
+            table: tables::OPERATION_TABLE,
+            size: tables::MAX_OPERATIONS,
+            width: tables::OPERATION_CELLS,
+            cells: x.operation_cells().len() as u64,
+            count: x.counts().operations,
+        }
+    }
+
+    pub fn attributes(x: &Tables<'_>) -> Pass
+        ensures { result ≡ record { table = attribute_table; size = max_attributes; width = 8; cells = length x.now.a; count = x.now.counts.attributes } }
+    {
+        Pass {
+            table: tables::ATTRIBUTE_TABLE,
+            size: tables::MAX_ATTRIBUTES,
+            width: tables::ATTRIBUTE_CELLS,
+            cells: x.attribute_cells().len() as u64,
+            count: x.counts().attributes,
+        }
+    }
+
+    pub fn blocks(x: &Tables<'_>) -> Pass
+        ensures { result ≡ record { table = block_table; size = max_blocks; width = 4; cells = length x.now.b; count = x.now.counts.blocks } }
+    {
+        Pass {
+            table: tables::BLOCK_TABLE,
+            size: tables::MAX_BLOCKS,
+            width: tables::BLOCK_CELLS,
+            cells: x.block_cells().len() as u64,
+            count: x.counts().blocks,
+        }
+    }
+
+    pub fn regions(x: &Tables<'_>) -> Pass
+        ensures { result ≡ record { table = region_table; size = max_regions; width = 2; cells = length x.now.r; count = x.now.counts.regions } }
+    {
+        Pass {
+            table: tables::REGION_TABLE,
+            size: tables::MAX_REGIONS,
+            width: tables::REGION_CELLS,
+            cells: x.region_cells().len() as u64,
+            count: x.counts().regions,
+        }
+    }
+
+    pub fn functions(x: &Tables<'_>) -> Pass
+        ensures { result ≡ record { table = function_table; size = max_functions; width = 1; cells = length x.now.f; count = x.now.counts.functions } }
+    {
+        Pass {
+            table: tables::FUNCTION_TABLE,
+            size: tables::MAX_FUNCTIONS,
+            width: tables::FUNCTION_CELLS,
+            cells: x.function_cells().len() as u64,
+            count: x.counts().functions,
+        }
+    }
+
+    // Whether entry i is within the size of its table and whole among the cells lent.
+    fn stands(&self, i: u64) -> bool
+        ensures { result ≡ stands_in self.now i }
+    {
+        if self.width == 0 {
+            return i < self.size;
+        }
+        (i < self.size) & (i < self.cells / self.width)
+    }
+
+    // The first entry that does not stand or is not good.
+    pub fn first_bad<F: Fn(u64) -> bool>(&self, good: F) -> Answer
+        requires { F.IsAlwaysCallable good }
+        ensures { (p : ℕ → Bool) → ((i : ℕ) (r : Bool) → i < self.now.count → F.post good i r → r ≡ p i) → result ≡ first_of self.now p }
+    {
+        for entry in 0..self.count {
+            if !(self.stands(entry) & good(entry)) {
+                return Err(Refusal::OutOfRange {
+                    table: self.table,
+                    entry,
+                });
+            }
+        }
+        Ok(())
+    }
+
+    // Of a table that holds lists, by what each entry's lists add to those before: the list entries up to its end, or its first entry that
+    // does not stand, is not good or has no room.
+    pub fn scan<F: Fn(u64) -> bool, L: Fn(u64) -> u64>(
+        &self,
+        before: u64,
+        good: F,
+        listed: L,
+    ) -> Result<u64, Refusal>
+        requires tests { F.IsAlwaysCallable good }
+        requires counts { L.IsAlwaysCallable listed }
+        ensures { (p : ℕ → Bool) (f : ℕ → ℕ) → ((i : ℕ) (r : Bool) → i < self.now.count → F.post good i r → r ≡ p i) → ((i r : ℕ) → i < self.now.count → L.post listed i r → r ≡ min (f i) (2 ^ 64 - 1)) → result ≡ scan_of self.now p f before }
+    {
+        let mut used = before;
+        for entry in 0..self.count {
+            used = add_list(used, listed(entry));
+            if !(self.stands(entry) & (good(entry) & (used <= tables::MAX_ENTRIES))) {
+                return Err(Refusal::OutOfRange {
+                    table: self.table,
+                    entry,
+                });
+            }
+        }
+        Ok(used)
+    }
 }
 
 // Whether len entries from start on stand among total: no sum wraps.
@@ -42,37 +180,17 @@ fn fits(start: u64, len: u64, total: u64) -> bool
     len <= total - start
 }
 
-// Whether entry i is within the size of its table and whole among the cells lent.
-fn stands(size: u64, width: u64, cells: u64, i: u64) -> bool
-    ensures { result ≡ (ltb i size && leb (suc i * width) cells) }
-{
-    if width == 0 {
-        return i < size;
-    }
-    (i < size) & (i < cells / width)
-}
-
-// The list entries with one list more, or one more than there may be where they would pass that.
+// The list entries with so many more, or one more than there may be where they would pass that.
 fn add_list(used: u64, len: u64) -> u64
     ensures { result ≡ min (used + len) (suc max_entries) }
 {
-    if fits(used, len, tables::MAX_ENTRIES) {
-        return used + len;
-    }
-    tables::MAX_ENTRIES + 1
+    used.saturating_add(len).min(tables::MAX_ENTRIES + 1)
 }
 
 fn all_below(xs: &[u64], n: u64) -> bool
     ensures { result ≡ all_below n xs.now }
 {
-    let mut i = 0;
-    while i < xs.len() {
-        if n <= xs[i] {
-            return false;
-        }
-        i += 1;
-    }
-    true
+    xs.iter().all(|&x| x < n)
 }
 
 // Whether the 64 bits are those of a signed number of 32.
@@ -85,64 +203,62 @@ fn is_signed32(x: u64) -> bool
 fn all_signed32(xs: &[u64]) -> bool
     ensures { result ≡ all signed32 xs.now }
 {
-    let mut i = 0;
-    while i < xs.len() {
-        if !is_signed32(xs[i]) {
-            return false;
-        }
-        i += 1;
-    }
-    true
+    xs.iter().all(|&x| is_signed32(x))
 }
 
-// Whether a list is whole among the list entries and holds ids below n alone.
-fn good_list(l: &[u64], span: Span, n: u64) -> bool
-    ensures { result ≡ good_list l.now span n }
+// Whether a list stands within the list entries; and whether it is whole there and holds ids below n alone.
+fn is_within(x: &Tables<'_>, span: Span) -> bool
+    ensures { result ≡ within x.now span }
 {
-    fits(span.start, span.len, l.len() as u64) & all_below(cells::entries(l, span), n)
+    fits(span.start, span.len, x.entries().len() as u64)
+}
+
+pub fn good_list(x: &Tables<'_>, span: Span, n: u64) -> bool
+    ensures { result ≡ good_list x.now.l span n }
+{
+    is_within(x, span) & all_below(cells::entries(x.entries(), span), n)
 }
 
 // A token's other columns mean nothing.
-fn good_type(t: &[u64], n: Counts, id: u64) -> bool
-    ensures { result ≡ good_type (tables_of_types t.now n) id }
+fn good_type(x: &Tables<'_>, id: u64) -> bool
+    ensures { result ≡ good_type x.now id }
 {
-    let form = tables::type_form(t, n, id);
+    let form = x.type_form(id);
     let tile = (form < TYPE_FORMS)
-        & (tables::type_kind(t, n, id) < KINDS)
-        & (tables::type_pointer(t, n, id) < 4294967296)
-        & (tables::type_padded(t, n, id) < 2)
-        & is_signed32(tables::type_sparse(t, n, id))
-        & (tables::type_rank(t, n, id) <= tables::MAX_RANK)
-        & ((form < 4) | all_signed32(tables::type_dims(t, n, id)));
+        & (x.type_kind(id) < KINDS)
+        & (x.type_pointer(id) < 4294967296)
+        & (x.type_padded(id) < 2)
+        & is_signed32(x.type_sparse(id))
+        & (x.type_rank(id) <= tables::MAX_RANK)
+        & ((form < 4) | all_signed32(x.type_dims(id)));
     (form == 0) | tile
 }
 
 // What a value claims: any index of an operation that there is.
-fn good_claim(claim: Claim, n: Counts) -> bool
-    ensures { result ≡ good_claim (tables_of_values [] n) claim }
+fn good_claim(x: &Tables<'_>, claim: Option<Claim>) -> bool
+    ensures { result ≡ good_claim x.now claim }
 {
     match claim {
-        Claim::Nothing => true,
-        Claim::Result(operation, _) => operation < n.operations,
+        None => true,
+        Some(c) => c.operation < x.counts().operations,
     }
 }
 
-fn good_value(v: &[u64], n: Counts, id: u64) -> bool
-    ensures { result ≡ good_value (tables_of_values v.now n) id }
+fn good_value(x: &Tables<'_>, id: u64) -> bool
+    ensures { result ≡ good_value x.now id }
 {
-    (tables::value_type(v, n, id) < n.types)
-        & (tables::claim_flag(v, n, id) < 2)
-        & good_claim(tables::claim_of(v, n, id), n)
+    (x.value_type(id) < x.counts().types) & (x.claim_flag(id) < 2) & good_claim(x, x.claim(id))
 }
 
-fn good_operation(o: &[u32], l: &[u64], n: Counts, id: u64) -> bool
-    ensures { result ≡ good_operation (tables_of_operations o.now l.now n) id }
+fn good_operation(x: &Tables<'_>, id: u64) -> bool
+    ensures { result ≡ good_operation x.now id }
 {
-    let attributes = tables::attributes_span(o, n, id);
-    (tables::opcode(o, n, id) < OPCODES)
-        & good_list(l, tables::result_types_span(o, n, id), n.types)
-        & good_list(l, tables::operands_span(o, n, id), n.values)
-        & good_list(l, tables::regions_span(o, n, id), n.regions)
+    let n = x.counts();
+    let attributes = x.attributes_span(id);
+    (x.opcode(id) < OPCODES)
+        & good_list(x, x.result_types_span(id), n.types)
+        & good_list(x, x.operands_span(id), n.values)
+        & good_list(x, x.regions_span(id), n.regions)
         & fits(attributes.start, attributes.len, n.attributes)
 }
 
@@ -177,237 +293,86 @@ fn good_numbers(form: u64, count: u64, absent: u64, xs: &[u64]) -> bool
     (form == names::OTHER) & (count == 0) & (absent == 0)
 }
 
-fn good_attribute(a: &[u32], l: &[u64], n: Counts, id: u64) -> bool
-    ensures { result ≡ good_attribute (tables_of_attributes a.now l.now n) id }
+fn good_attribute(x: &Tables<'_>, id: u64) -> bool
+    ensures { result ≡ good_attribute x.now id }
 {
-    let form = tables::attribute_form(a, n, id);
-    let span = tables::attribute_numbers_span(a, n, id);
-    let absent = tables::attribute_absent(a, n, id);
-    (tables::attribute_name(a, n, id) <= NAMES)
-        & fits(span.start, span.len, l.len() as u64)
-        & good_numbers(form, span.len, absent, cells::entries(l, span))
+    let span = x.attribute_numbers_span(id);
+    (x.attribute_name(id) <= NAMES)
+        & is_within(x, span)
+        & good_numbers(
+            x.attribute_form(id),
+            span.len,
+            x.attribute_absent(id),
+            x.attribute_numbers(id),
+        )
 }
 
-fn good_block(b: &[u32], l: &[u64], n: Counts, id: u64) -> bool
-    ensures { result ≡ good_block (tables_of_blocks b.now l.now n) id }
+fn good_block(x: &Tables<'_>, id: u64) -> bool
+    ensures { result ≡ good_block x.now id }
 {
-    good_list(l, tables::arguments_span(b, n, id), n.values)
-        & good_list(l, tables::operations_span(b, n, id), n.operations)
+    good_list(x, x.arguments_span(id), x.counts().values)
+        & good_list(x, x.operations_span(id), x.counts().operations)
 }
 
-fn good_region(r: &[u32], l: &[u64], n: Counts, id: u64) -> bool
-    ensures { result ≡ good_region (tables_of_regions r.now l.now n) id }
+pub fn good_region(x: &Tables<'_>, id: u64) -> bool
+    ensures { result ≡ good_region x.now id }
 {
-    good_list(l, tables::blocks_span(r, n, id), n.blocks)
+    good_list(x, x.blocks_span(id), x.counts().blocks)
 }
 
-// What an entry's lists add to the list entries.
-fn add_operation(o: &[u32], n: Counts, id: u64, used: u64) -> u64
-    ensures { result ≡ min (used + listed_by_operation (tables_of_operations o.now [] n) id) (suc max_entries) }
+// How many list entries an entry's lists take, as far as 64 bits go.
+pub fn listed_by_operation(x: &Tables<'_>, id: u64) -> u64
+    ensures { result ≡ min (listed_by_operation x.now id) (2 ^ 64 - 1) }
 {
-    let types = tables::result_types_span(o, n, id);
-    let operands = tables::operands_span(o, n, id);
-    let regions = tables::regions_span(o, n, id);
-    add_list(
-        add_list(add_list(used, types.len), operands.len),
-        regions.len,
-    )
+    let types = x.result_types_span(id).len;
+    let operands = x.operands_span(id).len;
+    let regions = x.regions_span(id).len;
+    types.saturating_add(operands).saturating_add(regions)
 }
 
-fn add_attribute(a: &[u32], n: Counts, id: u64, used: u64) -> u64
-    ensures { result ≡ min (used + listed_by_attribute (tables_of_attributes a.now [] n) id) (suc max_entries) }
+fn listed_by_attribute(x: &Tables<'_>, id: u64) -> u64
+    ensures { result ≡ min (listed_by_attribute x.now id) (2 ^ 64 - 1) }
 {
-    let numbers = tables::attribute_numbers_span(a, n, id);
-    add_list(used, numbers.len)
+    x.attribute_numbers_span(id).len
 }
 
-fn add_block(b: &[u32], n: Counts, id: u64, used: u64) -> u64
-    ensures { result ≡ min (used + listed_by_block (tables_of_blocks b.now [] n) id) (suc max_entries) }
+pub fn listed_by_block(x: &Tables<'_>, id: u64) -> u64
+    ensures { result ≡ min (listed_by_block x.now id) (2 ^ 64 - 1) }
 {
-    let arguments = tables::arguments_span(b, n, id);
-    let operations = tables::operations_span(b, n, id);
-    add_list(add_list(used, arguments.len), operations.len)
+    let arguments = x.arguments_span(id).len;
+    let operations = x.operations_span(id).len;
+    arguments.saturating_add(operations)
 }
 
-fn add_region(r: &[u32], n: Counts, id: u64, used: u64) -> u64
-    ensures { result ≡ min (used + listed_by_region (tables_of_regions r.now [] n) id) (suc max_entries) }
+pub fn listed_by_region(x: &Tables<'_>, id: u64) -> u64
+    ensures { result ≡ min (listed_by_region x.now id) (2 ^ 64 - 1) }
 {
-    let blocks = tables::blocks_span(r, n, id);
-    add_list(used, blocks.len)
-}
-
-fn out_of_range(table: u64, entry: u64) -> Answer
-    ensures { result ≡ refused table (some entry) }
-{
-    Err(Refusal::OutOfRange { table, entry })
-}
-
-fn check_types(t: &[u64], n: Counts) -> Answer
-    ensures { result ≡ first_bad type_table max_types 16 t.now n.types (good_type (tables_of_types t.now n)) }
-{
-    let mut i = 0;
-    while i < n.types {
-        let whole = stands(tables::MAX_TYPES, tables::TYPE_CELLS, t.len() as u64, i);
-        if !(whole & good_type(t, n, i)) {
-            return out_of_range(tables::TYPE_TABLE, i);
-        }
-        i += 1;
-    }
-    Ok(())
-}
-
-fn check_values(v: &[u64], n: Counts) -> Answer
-    ensures { result ≡ first_bad value_table max_values 4 v.now n.values (good_value (tables_of_values v.now n)) }
-{
-    let mut i = 0;
-    while i < n.values {
-        let whole = stands(tables::MAX_VALUES, tables::VALUE_CELLS, v.len() as u64, i);
-        if !(whole & good_value(v, n, i)) {
-            return out_of_range(tables::VALUE_TABLE, i);
-        }
-        i += 1;
-    }
-    Ok(())
-}
-
-fn check_functions(f: &[u32], n: Counts) -> Answer
-    ensures { result ≡ first_bad function_table max_functions 1 f.now n.functions (λ p. ltb (get_or (functions (tables_of_functions f.now n)) p 0) n.operations) }
-{
-    let mut i = 0;
-    while i < n.functions {
-        let whole = stands(
-            tables::MAX_FUNCTIONS,
-            tables::FUNCTION_CELLS,
-            f.len() as u64,
-            i,
-        );
-        let known = tables::function(f, n, i) < n.operations;
-        if !(whole & known) {
-            return out_of_range(tables::FUNCTION_TABLE, i);
-        }
-        i += 1;
-    }
-    Ok(())
-}
-
-fn scan_operations(o: &[u32], l: &[u64], n: Counts, before: u64) -> Scanned
-    ensures { result ≡ scan max_operations 16 o.now n.operations (good_operation (tables_of_operations o.now l.now n)) (listed_by_operation (tables_of_operations o.now l.now n)) before }
-{
-    let mut used = before;
-    let mut i = 0;
-    while i < n.operations {
-        used = add_operation(o, n, i, used);
-        let whole = stands(
-            tables::MAX_OPERATIONS,
-            tables::OPERATION_CELLS,
-            o.len() as u64,
-            i,
-        );
-        let room = used <= tables::MAX_ENTRIES;
-        if !(whole & (good_operation(o, l, n, i) & room)) {
-            return Scanned::Bad(i);
-        }
-        i += 1;
-    }
-    Scanned::Good(used)
-}
-
-fn scan_attributes(a: &[u32], l: &[u64], n: Counts, before: u64) -> Scanned
-    ensures { result ≡ scan max_attributes 8 a.now n.attributes (good_attribute (tables_of_attributes a.now l.now n)) (listed_by_attribute (tables_of_attributes a.now l.now n)) before }
-{
-    let mut used = before;
-    let mut i = 0;
-    while i < n.attributes {
-        used = add_attribute(a, n, i, used);
-        let whole = stands(
-            tables::MAX_ATTRIBUTES,
-            tables::ATTRIBUTE_CELLS,
-            a.len() as u64,
-            i,
-        );
-        let room = used <= tables::MAX_ENTRIES;
-        if !(whole & (good_attribute(a, l, n, i) & room)) {
-            return Scanned::Bad(i);
-        }
-        i += 1;
-    }
-    Scanned::Good(used)
-}
-
-fn scan_blocks(b: &[u32], l: &[u64], n: Counts, before: u64) -> Scanned
-    ensures { result ≡ scan max_blocks 4 b.now n.blocks (good_block (tables_of_blocks b.now l.now n)) (listed_by_block (tables_of_blocks b.now l.now n)) before }
-{
-    let mut used = before;
-    let mut i = 0;
-    while i < n.blocks {
-        used = add_block(b, n, i, used);
-        let whole = stands(tables::MAX_BLOCKS, tables::BLOCK_CELLS, b.len() as u64, i);
-        let room = used <= tables::MAX_ENTRIES;
-        if !(whole & (good_block(b, l, n, i) & room)) {
-            return Scanned::Bad(i);
-        }
-        i += 1;
-    }
-    Scanned::Good(used)
-}
-
-fn scan_regions(r: &[u32], l: &[u64], n: Counts, before: u64) -> Scanned
-    ensures { result ≡ scan max_regions 2 r.now n.regions (good_region (tables_of_regions r.now l.now n)) (listed_by_region (tables_of_regions r.now l.now n)) before }
-{
-    let mut used = before;
-    let mut i = 0;
-    while i < n.regions {
-        used = add_region(r, n, i, used);
-        let whole = stands(tables::MAX_REGIONS, tables::REGION_CELLS, r.len() as u64, i);
-        let room = used <= tables::MAX_ENTRIES;
-        if !(whole & (good_region(r, l, n, i) & room)) {
-            return Scanned::Bad(i);
-        }
-        i += 1;
-    }
-    Scanned::Good(used)
+    x.blocks_span(id).len
 }
 
 // The first table's first entry that is out of range.
-pub fn check_tables(
-    t: &[u64],
-    v: &[u64],
-    o: &[u32],
-    a: &[u32],
-    b: &[u32],
-    r: &[u32],
-    f: &[u32],
-    l: &[u64],
-    n: Counts,
-) -> Answer
-    ensures { result ≡ table_ranges (lent t.now v.now o.now a.now b.now r.now f.now l.now n) }
+pub fn check_tables(x: &Tables<'_>) -> Answer
+    ensures { result ≡ table_ranges x.now }
 {
-    if let Err(refusal) = check_types(t, n) {
-        return Err(refusal);
-    }
-    if let Err(refusal) = check_values(v, n) {
-        return Err(refusal);
-    }
-    let by_operations = match scan_operations(o, l, n, 0) {
-        Scanned::Good(used) => used,
-        Scanned::Bad(i) => return out_of_range(tables::OPERATION_TABLE, i),
-    };
-    let by_attributes = match scan_attributes(a, l, n, by_operations) {
-        Scanned::Good(used) => used,
-        Scanned::Bad(i) => return out_of_range(tables::ATTRIBUTE_TABLE, i),
-    };
-    let by_blocks = match scan_blocks(b, l, n, by_attributes) {
-        Scanned::Good(used) => used,
-        Scanned::Bad(i) => return out_of_range(tables::BLOCK_TABLE, i),
-    };
-    if let Scanned::Bad(i) = scan_regions(r, l, n, by_blocks) {
-        return out_of_range(tables::REGION_TABLE, i);
-    }
-    check_functions(f, n)
+    Pass::types(x).first_bad(|i| good_type(x, i))?;
+    Pass::values(x).first_bad(|i| good_value(x, i))?;
+    let used = Pass::operations(x).scan(
+        0,
+        |i| good_operation(x, i),
+        |i| listed_by_operation(x, i),
+    )?;
+    let used = Pass::attributes(x).scan(
+        used,
+        |i| good_attribute(x, i),
+        |i| listed_by_attribute(x, i),
+    )?;
+    let used = Pass::blocks(x).scan(used, |i| good_block(x, i), |i| listed_by_block(x, i))?;
+    Pass::regions(x).scan(used, |i| good_region(x, i), |i| listed_by_region(x, i))?;
+    Pass::functions(x).first_bad(|i| x.function(i) < x.counts().operations)
 }
 
-// The rows of the sheet for an opcode and for a kind.
-fn good_count(fixed: Fixed) -> bool
+// The rows of the sheet for an opcode, an atomic mode and a kind.
+fn good_count(fixed: Option<u64>) -> bool
     ensures { result ≡ good_count fixed }
 {
     match fixed {
@@ -422,59 +387,25 @@ fn good_fixed(sheet: &[u64], opcode: u64) -> bool
     (tables::fixed_flag(sheet, opcode) < 2) & good_count(tables::fixed_count(sheet, opcode))
 }
 
+fn good_mode(sheet: &[u64], mode: u64) -> bool
+    ensures { result ≡ good_mode sheet.now mode }
+{
+    tables::mode_mask(sheet, mode) < 65536
+}
+
 fn good_kind(sheet: &[u64], kind: u64) -> bool
     ensures { result ≡ good_kind sheet.now kind }
 {
     (tables::contained_mask(sheet, kind) < 65536) & (tables::byte_width(sheet, kind) <= 8)
 }
 
-// The sheet's rows for every opcode, every atomic mode and every kind.
-fn good_opcodes(sheet: &[u64]) -> bool
-    ensures { result ≡ good_opcodes sheet.now }
-{
-    let mut i = 0;
-    while i < OPCODES {
-        if !good_fixed(sheet, i) {
-            return false;
-        }
-        i += 1;
-    }
-    true
-}
-
-fn good_modes(sheet: &[u64]) -> bool
-    ensures { result ≡ good_modes sheet.now }
-{
-    let mut i = 0;
-    while i < MODES {
-        if 65536 <= tables::mode_mask(sheet, i) {
-            return false;
-        }
-        i += 1;
-    }
-    true
-}
-
-fn good_kinds(sheet: &[u64]) -> bool
-    ensures { result ≡ good_kinds sheet.now }
-{
-    let mut i = 0;
-    while i < KINDS {
-        if !good_kind(sheet, i) {
-            return false;
-        }
-        i += 1;
-    }
-    true
-}
-
 fn good_sheet(sheet: &[u64]) -> bool
     ensures { result ≡ good_sheet sheet.now }
 {
     (tables::SHEET_CELLS <= sheet.len() as u64)
-        & good_opcodes(sheet)
-        & good_modes(sheet)
-        & good_kinds(sheet)
+        & (0..OPCODES).all(|opcode| good_fixed(sheet, opcode))
+        & (0..MODES).all(|mode| good_mode(sheet, mode))
+        & (0..KINDS).all(|kind| good_kind(sheet, kind))
         & (tables::tile_flag(sheet) < 2)
 }
 
@@ -484,5 +415,8 @@ pub fn check_sheet(sheet: &[u64]) -> Answer
     if good_sheet(sheet) {
         return Ok(());
     }
-    out_of_range(tables::SHEET_TABLE, 0)
+    Err(Refusal::OutOfRange {
+        table: tables::SHEET_TABLE,
+        entry: 0,
+    })
 }

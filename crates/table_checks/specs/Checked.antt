@@ -1,29 +1,28 @@
 -- What the checks hand on: the answer, and where nothing is refused the reachable operations in walk order and the value of each declared
 -- result.
-use Rattle.std.specs.Prelude.{ℕ, ◌≤◌, ◌≡◌, List, Ok, Err}
+use Rattle.std.specs.Prelude.{ℕ, ◌≤◌, ◌≡◌, List, Result, Ok, Err}
 use Rattle.tables.specs.Sizes.{max_entries}
 use Rattle.tables.specs.Tables.{Tables, cut}
 use Rattle.tables.specs.Answer.{and_then, Answer}
+use Rattle.tables.specs.declared.Refusal.{Refusal}
 use Rattle.listed.specs.Twice.{listed_twice}
 use Rattle.walk.specs.Depth.{too_deep}
 use Rattle.walk.specs.Written.{filled, walked}
 use Rattle.values.specs.Results.{declared_in}
 use Rattle.values.specs.Claims.{Zeros, Filled}
 use Rattle.values.specs.Guarded.{guarded_twice}
-use Rattle.table_checks.specs.declared.Checked.{Checked}
-use Rattle.table_checks.specs.declared.Checked.TheVariants.{Fine, Refused as refused}
 
-abbrev pub answer_of : Checked → Answer
-answer_of (Fine m) = Ok tt
-answer_of (refused r) = Err r
+abbrev pub answer_of : Result ℕ Refusal → Answer
+answer_of (Ok m) = Ok tt
+answer_of (Err r) = Err r
 
 -- how many operations were written
-abbrev pub wrote : Checked → ℕ
-wrote (Fine m) = m
-wrote (refused r) = 0
+abbrev pub wrote : Result ℕ Refusal → ℕ
+wrote (Ok m) = m
+wrote (Err r) = 0
 
 -- the answer is a; the list, `before` at entry, holds xs from the front where a accepts, and is all zero where it refuses
-pub record Settles (w : Checked) (after before : List ℕ) (a : Answer) (xs : List ℕ) : Type 0 where
+pub record Settles (w : Result ℕ Refusal) (after before : List ℕ) (a : Answer) (xs : List ℕ) : Type 0 where
   pub answer : answer_of w ≡ a
   pub list : filled after (wrote w) ≡ walked a before xs
 

@@ -516,6 +516,14 @@ impl<'a> Tables<'a> {
         cells::entries(self.entries, self.blocks_span(region))
     }
 
+    // The operations of the functions, as far as the lent cells go.
+    pub fn functions(&self) -> &'a [u32]
+        ensures { result.now ≡ functions self.now }
+    {
+        let count = self.counts.functions.min(self.functions.len() as u64);
+        &self.functions[..count as usize]
+    }
+
     // The operation of the function at a position.
     pub fn function(&self, position: u64) -> u64
         ensures { result ≡ get_or (functions self.now) position 0 }

@@ -1,12 +1,12 @@
 -- What the code keeps to find the value of a declared result in one step: where the results of each operation start among all of them,
 -- and a cell for each of them.
-use Rattle.std.specs.Prelude.{ℕ, zero, suc, ◌+◌, min, ◌≡◌, Bool, cond, not, ◌&&◌, ◌||◌, List, [], ◌∷◌, ltb, eqb, get_or, set, replicate}
+use Rattle.std.specs.Prelude as std
+use Rattle.std.specs.Prelude.{ℕ, zero, suc, ◌+◌, min, ◌≡◌, Bool, cond, not, ◌&&◌, ◌||◌, List, [], ◌∷◌, ltb, eqb, get_or, set, replicate, Some, None}
 use Rattle.std.proofs.Math.Option.{Option, some, none}
 use Rattle.cells.specs.Lists.{below, find}
 use Rattle.tables.specs.Sizes.{max_operations, max_entries}
 use Rattle.tables.specs.Tables.{Tables, claim, declared}
 use Rattle.tables.specs.declared.Claim.{Claim}
-use Rattle.tables.specs.declared.Claim.TheVariants.{Result, Nothing}
 use Rattle.values.specs.Results.{declared_in}
 
 -- where the results of operation i start; more than there may be count as one too many
@@ -22,9 +22,10 @@ abbrev pub bases_after : Tables → List ℕ → List ℕ
 bases_after x bases = fill_below (base_of x) x.counts.operations bases
 
 -- a number at the cell of the declared result that is claimed
-unfoldable pub put_claim : (ℕ → ℕ → Bool) → List ℕ → ℕ → Claim → List ℕ → List ℕ
-put_claim is_declared bases number Nothing cells = cells
-put_claim is_declared bases number (Result i k) cells = cond (is_declared i k) (set cells (get_or bases i 0 + k) number) cells
+unfoldable pub put_claim : (ℕ → ℕ → Bool) → List ℕ → ℕ → std.Option Claim → List ℕ → List ℕ
+put_claim is_declared bases number None cells = cells
+put_claim is_declared bases number (Some c) cells =
+    cond (is_declared c.operation c.index) (set cells (get_or bases c.operation 0 + c.index) number) cells
 
 -- every value's number, which is one more than the value, from the last value to the first: the lowest that claims a result stays
 abbrev pub claims_by : (ℕ → List ℕ → List ℕ) → List ℕ → List ℕ → List ℕ
@@ -39,6 +40,11 @@ abbrev pub number_of : Option ℕ → ℕ
 number_of none = 0
 number_of (some v) = v + 1
 
+-- the value whose number stands in a cell
+abbrev pub value_in : ℕ → std.Option ℕ
+value_in zero = None
+value_in (suc v) = Some v
+
 -- cells of full length that hold nothing yet
 abbrev pub Zeros : List ℕ → List ℕ → Type 0
 Zeros bases cells = (bases ≡ replicate max_operations 0) × (cells ≡ replicate max_entries 0)
@@ -48,10 +54,11 @@ abbrev pub Filled : Tables → List ℕ → List ℕ → Type 0
 Filled x bases cells = (bases ≡ bases_after x (replicate max_operations 0)) × (cells ≡ claims_after x bases (replicate max_entries 0))
 
 -- a value's number is not the one in the cell of the declared result that it claims, or it is listed besides, or listed twice
-unfoldable pub seen_twice : (ℕ → ℕ → Bool) → List ℕ → List ℕ → ℕ → ℕ → Claim → Bool
-seen_twice is_declared bases cells times number Nothing = ltb 1 times
-seen_twice is_declared bases cells times number (Result i k) =
-    ltb 1 times || (is_declared i k && (ltb 0 times || not (eqb (get_or cells (get_or bases i 0 + k) 0) number)))
+unfoldable pub seen_twice : (ℕ → ℕ → Bool) → List ℕ → List ℕ → ℕ → ℕ → std.Option Claim → Bool
+seen_twice is_declared bases cells times number None = ltb 1 times
+seen_twice is_declared bases cells times number (Some c) =
+    ltb 1 times
+    || (is_declared c.operation c.index && (ltb 0 times || not (eqb (get_or cells (get_or bases c.operation 0 + c.index) 0) number)))
 
 unfoldable pub lowest_seen : Tables → List ℕ → List ℕ → List ℕ → Option ℕ
 lowest_seen x marks bases cells =

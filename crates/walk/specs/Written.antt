@@ -1,10 +1,8 @@
 -- What the walk answers and leaves: a lent list is filled from the front with the operations in walk order, as far as it has room.
-use Rattle.std.specs.Prelude.{ℕ, ◌+◌, min, ◌≡◌, cond, List, [], ◌∷◌, length, set, replicate, ltb, Ok, Err}
+use Rattle.std.specs.Prelude.{ℕ, ◌+◌, min, ◌≡◌, cond, List, [], ◌∷◌, length, set, replicate, ltb, Result, Ok, Err}
 use Rattle.cells.specs.Cell.{copied}
 use Rattle.tables.specs.Answer.{Answer}
-use Rattle.tables.specs.declared.Refusal.TheVariants.{TooDeep}
-use Rattle.walk.specs.declared.Walked.{Walked}
-use Rattle.walk.specs.declared.Walked.TheVariants.{Fine, Deep}
+use Rattle.tables.specs.declared.Refusal.{Refusal}
 
 -- what a lent list holds, and how many of its entries were written
 pub record Filled : Type 0 where
@@ -19,13 +17,13 @@ abbrev pub written : List ℕ → List ℕ → Filled
 written out xs = filled (copied xs out) (min (length xs) (length out))
 
 -- what an answer tells, and how many operations it says were written
-abbrev pub told : Walked → Answer
-told (Fine m) = Ok tt
-told (Deep i) = Err (TooDeep i)
+abbrev pub told : Result ℕ Refusal → Answer
+told (Ok m) = Ok tt
+told (Err r) = Err r
 
-abbrev pub wrote : Walked → ℕ
-wrote (Fine m) = m
-wrote (Deep i) = 0
+abbrev pub wrote : Result ℕ Refusal → ℕ
+wrote (Ok m) = m
+wrote (Err r) = 0
 
 -- the order is written where nothing is refused; a refusal leaves the list all zero
 abbrev pub walked : Answer → List ℕ → List ℕ → Filled
@@ -43,11 +41,11 @@ push_all p [] = p
 push_all p (x ∷ xs) = push_all (push p x) xs
 
 -- an answer that is fine says where the next free place is
-abbrev pub Reached : Walked → List ℕ → Filled → Type 0
-Reached (Fine m) out p = filled out m ≡ p
-Reached (Deep i) out p = Unit
+abbrev pub Reached : Result ℕ Refusal → List ℕ → Filled → Type 0
+Reached (Ok m) out p = filled out m ≡ p
+Reached (Err r) out p = Unit
 
 -- a visit that began at p gives the answer a and, where that is fine, has written the ids
-pub record Visited (w : Walked) (out : List ℕ) (p : Filled) (a : Answer) (ids : List ℕ) : Type 0 where
+pub record Visited (w : Result ℕ Refusal) (out : List ℕ) (p : Filled) (a : Answer) (ids : List ℕ) : Type 0 where
   pub answer : told w ≡ a
   pub reached : Reached w out (push_all p ids)

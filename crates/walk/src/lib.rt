@@ -1,20 +1,12 @@
 // Code 3, and the reachable operations in walk order: region visits blocks, block visits operations, operation visits regions.
 #![tactic(auto)]
 
-ghost use Rattle.std.specs.Prelude.{◌≡◌, ℕ, List};
-ghost use Rattle.tables.specs.Tables.{nest};
+ghost use Rattle.std.specs.Prelude.{◌≡◌};
 ghost use Rattle.walk.specs.Order.{operation_order, block_order, region_order, order};
 ghost use Rattle.walk.specs.Depth.{operation_depth, block_depth, region_depth, too_deep};
 ghost use Rattle.walk.specs.Written.{filled, push, Visited, told, wrote, walked};
 
-use tables::Counts;
-
-// How many operations were written, or the operation that opens depth 33.
-#[derive(Clone, Copy)]
-pub enum Walked {
-    Fine(u64),
-    Deep(u64),
-}
+use tables::{Refusal, Tables};
 
 // The id at the next free place, where there is one; the place after it is the answer.
 fn push_id(out: &mut [u64], used: u64, id: u64) -> u64
@@ -27,163 +19,93 @@ fn push_id(out: &mut [u64], used: u64, id: u64) -> u64
     used
 }
 
+// Each visit answers with the next free place, or the operation that opens depth 33.
 // Region id of operation owner: its blocks in order, where a depth is left for them.
 #[cycle(visit_block_visit_operation_visit_region)]
 fn visit_region(
-    o: &[u32],
-    b: &[u32],
-    r: &[u32],
-    l: &[u64],
-    n: Counts,
+    x: &Tables<'_>,
     out: &mut [u64],
     used: u64,
     depth: u64,
     owner: u64,
     id: u64,
-) -> Walked
-    ensures { (f : List ℕ) → let x = nest o.now b.now r.now f l.now n in Visited result out.new (filled out.old used) (region_depth depth x owner id) (region_order depth x id) }
+) -> Result<u64, Refusal>
+    ensures { Visited result out.new (filled out.old used) (region_depth depth x.now owner id) (region_order depth x.now id) }
 {
-    let blocks = tables::blocks(r, l, n, id);
+    let blocks = x.blocks(id);
     if depth == 0 {
-        if blocks.len() == 0 {
-            return Walked::Fine(used);
+        if blocks.is_empty() {
+            return Ok(used);
         }
-        return Walked::Deep(owner);
+        return Err(Refusal::TooDeep { operation: owner });
     }
     let mut next = used;
-    let mut i = 0;
-    while i < blocks.len() {
-        match visit_block(o, b, r, l, n, out, next, depth - 1, blocks[i]) {
-            Walked::Fine(m) => {
-                next = m;
-            }
-            Walked::Deep(k) => {
-                return Walked::Deep(k);
-            }
-        }
-        i += 1;
+    for &block in blocks {
+        next = visit_block(x, out, next, depth - 1, block)?;
     }
-    Walked::Fine(next)
+    Ok(next)
 }
 
 // Block id: its operations in order.
 #[cycle(visit_block_visit_operation_visit_region)]
 fn visit_block(
-    o: &[u32],
-    b: &[u32],
-    r: &[u32],
-    l: &[u64],
-    n: Counts,
+    x: &Tables<'_>,
     out: &mut [u64],
     used: u64,
     depth: u64,
     id: u64,
-) -> Walked
-    ensures { (f : List ℕ) → let x = nest o.now b.now r.now f l.now n in Visited result out.new (filled out.old used) (block_depth (region_depth depth x) x id) (block_order (region_order depth x) x id) }
+) -> Result<u64, Refusal>
+    ensures { Visited result out.new (filled out.old used) (block_depth (region_depth depth x.now) x.now id) (block_order (region_order depth x.now) x.now id) }
 {
-    let operations = tables::operations(b, l, n, id);
     let mut next = used;
-    let mut i = 0;
-    while i < operations.len() {
-        let operation = operations[i];
+    for &operation in x.operations(id) {
         // Most operations have no regions, and the call would cost more than the rest of their visit.
-        if tables::regions_span(o, n, operation).len == 0 {
+        if x.regions_span(operation).len == 0 {
             next = push_id(out, next, operation);
         } else {
-            match visit_operation(o, b, r, l, n, out, next, depth, operation) {
-                Walked::Fine(m) => {
-                    next = m;
-                }
-                Walked::Deep(k) => {
-                    return Walked::Deep(k);
-                }
-            }
+            next = visit_operation(x, out, next, depth, operation)?;
         }
-        i += 1;
     }
-    Walked::Fine(next)
+    Ok(next)
 }
 
 // Operation id, then its regions in order.
 #[cycle(visit_block_visit_operation_visit_region)]
 fn visit_operation(
-    o: &[u32],
-    b: &[u32],
-    r: &[u32],
-    l: &[u64],
-    n: Counts,
+    x: &Tables<'_>,
     out: &mut [u64],
     used: u64,
     depth: u64,
     id: u64,
-) -> Walked
-    ensures { (f : List ℕ) → let x = nest o.now b.now r.now f l.now n in Visited result out.new (filled out.old used) (operation_depth (region_depth depth x) x id) (operation_order (region_order depth x) x id) }
+) -> Result<u64, Refusal>
+    ensures { Visited result out.new (filled out.old used) (operation_depth (region_depth depth x.now) x.now id) (operation_order (region_order depth x.now) x.now id) }
 {
-    let regions = tables::regions(o, l, n, id);
     let mut next = push_id(out, used, id);
-    let mut i = 0;
-    while i < regions.len() {
-        match visit_region(o, b, r, l, n, out, next, depth, id, regions[i]) {
-            Walked::Fine(m) => {
-                next = m;
-            }
-            Walked::Deep(k) => {
-                return Walked::Deep(k);
-            }
-        }
-        i += 1;
+    for &region in x.regions(id) {
+        next = visit_region(x, out, next, depth, id, region)?;
     }
-    Walked::Fine(next)
+    Ok(next)
 }
 
 // The functions in order.
-fn visit_functions(
-    o: &[u32],
-    b: &[u32],
-    r: &[u32],
-    f: &[u32],
-    l: &[u64],
-    n: Counts,
-    out: &mut [u64],
-) -> Walked
-    ensures { let x = nest o.now b.now r.now f.now l.now n in Visited result out.new (filled out.old 0) (too_deep x) (order x) }
+fn visit_functions(x: &Tables<'_>, out: &mut [u64]) -> Result<u64, Refusal>
+    ensures { Visited result out.new (filled out.old 0) (too_deep x.now) (order x.now) }
 {
-    let count = cells::least(n.functions, f.len() as u64);
     let mut next = 0;
-    let mut i = 0;
-    while i < count {
-        let id = tables::function(f, n, i);
-        match visit_operation(o, b, r, l, n, out, next, tables::MAX_DEPTH, id) {
-            Walked::Fine(m) => {
-                next = m;
-            }
-            Walked::Deep(k) => {
-                return Walked::Deep(k);
-            }
-        }
-        i += 1;
+    for &id in x.functions() {
+        next = visit_operation(x, out, next, tables::MAX_DEPTH, u64::from(id))?;
     }
-    Walked::Fine(next)
+    Ok(next)
 }
 
-// Every reachable operation in walk order, as far as out has room; a refusal leaves out all zero.
-pub fn walk_order(
-    o: &[u32],
-    b: &[u32],
-    r: &[u32],
-    f: &[u32],
-    l: &[u64],
-    n: Counts,
-    out: &mut [u64],
-) -> Walked
-    ensures result_value { told result ≡ too_deep (nest o.now b.now r.now f.now l.now n) }
-    ensures result_after { let x = nest o.now b.now r.now f.now l.now n in filled out.new (wrote result) ≡ walked (too_deep x) out.old (order x) }
+// Every reachable operation in walk order, as far as out has room, and how many were written; a refusal leaves out all zero.
+pub fn walk_order(x: &Tables<'_>, out: &mut [u64]) -> Result<u64, Refusal>
+    ensures result_value { told result ≡ too_deep x.now }
+    ensures result_after { filled out.new (wrote result) ≡ walked (too_deep x.now) out.old (order x.now) }
 {
-    match visit_functions(o, b, r, f, l, n, out) {
-        Walked::Fine(m) => Walked::Fine(m),
-        Walked::Deep(i) => {
-            cells::clear(out);
-            Walked::Deep(i)
-        }
+    let walked = visit_functions(x, out);
+    if walked.is_err() {
+        cells::clear(out);
     }
+    walked
 }
