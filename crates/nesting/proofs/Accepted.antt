@@ -11,7 +11,8 @@ use lib.Dec.{eqb}
 use Rattle.cells.specs.Lists.{below}
 use Rattle.tables.specs.Tables.{Tables, opcode, operands, result_types}
 use Rattle.tables.specs.Sheet.{fixed_count_in}
-use Rattle.std.specs.Prelude.{Ok, Option, Some, None}
+use Rattle.std.specs.Prelude as std
+use Rattle.std.specs.Prelude.{Ok, Some, None}
 use Rattle.tables.specs.declared.Place.{Place}
 use Rattle.tables.specs.declared.Place.TheVariants.{Result}
 use Rattle.tables.specs.declared.Refusal.{Refusal}
@@ -48,7 +49,7 @@ look_refused x live i k (v ∷ vs) r e =
     not_found none p = refl
     not_found (some n) p = let z : ◌≡◌ {A = ℕ} 0 1 = cc in absurd (omega arith)
 
-count_refused : (c : Option ℕ) (i n : ℕ) (r : Refusal) → counted c i n ≡ refused r → r ≡ ResultCount i n
+count_refused : (c : std.Option ℕ) (i n : ℕ) (r : Refusal) → counted c i n ≡ refused r → r ≡ ResultCount i n
 count_refused None i n r e = let z : ◌≡◌ {A = ℕ} 0 1 = cc in absurd (omega arith)
 count_refused (Some m) i n r e = go (eqb m n) refl
   where

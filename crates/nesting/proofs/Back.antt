@@ -12,7 +12,8 @@ use Rattle.cells.specs.Lists.{from, below, flat}
 use Rattle.tables.specs.Tables.{Tables, opcode, operands, result_types}
 use Rattle.tables.specs.Sheet.{fixed_count_in}
 use Rattle.tables.specs.Place.{defining_place}
-use Rattle.std.specs.Prelude.{Option, Some, None}
+use Rattle.std.specs.Prelude as std
+use Rattle.std.specs.Prelude.{Some, None}
 use Rattle.tables.specs.declared.Place.{Place}
 use Rattle.tables.specs.declared.Place.TheVariants.{Argument, Result}
 use Rattle.tables.specs.declared.Refusal.{Refusal}
@@ -75,7 +76,7 @@ number_at x v (p ∷ ps) n e = go (is v (value_at x p)) refl (number x v ps) ref
 
 -- ---- where all is fine, the list is what the operands' look-ups give
 
-only_nil : (c : Option ℕ) (i n : ℕ) (zs : List ℕ) → counted c i n ≡ fine zs → zs ≡ []
+only_nil : (c : std.Option ℕ) (i n : ℕ) (zs : List ℕ) → counted c i n ≡ fine zs → zs ≡ []
 only_nil None i n zs e = cc
 only_nil (Some m) i n zs e = go (eqb m n) refl
   where

@@ -16,11 +16,11 @@ use Rattle.tables.specs.Place.{defining_place}
 use Rattle.tables.specs.Value.{value_of}
 use Rattle.tables.specs.declared.Place.{Place}
 use Rattle.tables.specs.declared.Place.TheVariants.{Argument, Result, Nowhere}
-use Rattle.tables.specs.declared.Claim.TheVariants.{Result as claims}
 use Rattle.nesting.specs.In.{In, here, later}
 use Rattle.nesting.specs.Shape.{Shape, Visit, visit, operation_visits, operations_visits, block_visits, region_visits, whole_visits}
 use Rattle.nesting.specs.Live.{to_list, result_values, valued, nesting_of, nth, value_at}
-use Rattle.nesting.specs.Passed.{Apart, all_arguments, Single}
+use Rattle.tables.specs.declared.Claim.{Claim}
+use Rattle.nesting.specs.Passed.{Apart, all_arguments, Single, claims}
 use Rattle.nesting.proofs.Lists.{in_none, in_single, in_split, in_flat, in_below, below_in, in_map, from_flat, from_least, flat_append}
 use Rattle.nesting.proofs.Past.{regions_past, blocks_past, operations_past, arguments_past, row_in}
 use Rattle.nesting.proofs.Places.{value_of_lem, place_is}
@@ -274,10 +274,16 @@ module _ (x : Tables) (g : Single x) where
   results_once i = record {
     same = λ {a} {b} {y = v} p q.
         let e : claim x v ≡ claims i a = (value_of_lem x i a v (in_to_list (value_of x i a) v p)).0 in
-        let f : claim x v ≡ claims i b = (value_of_lem x i b v (in_to_list (value_of x i b) v q)).0 in cc;
+        let f : claim x v ≡ claims i b = (value_of_lem x i b v (in_to_list (value_of x i b) v q)).0 in
+        index_is (sym e ∙ f);
     one = λ k. single (value_of x i k);
   }
     where
+      index_is : {a b : ℕ} → claims i a ≡ claims i b → a ≡ b
+      index_is {a} {b} e =
+          let q : ◌≡◌ {A = Claim} (record { operation = i; index = a }) (record { operation = i; index = b }) = cc in
+          ap (λ (c : Claim). c.index) q
+
       single : (o : Option ℕ) → Distinct (to_list o)
       single none = empty
       single (some v) = more {xs = []} in_none empty

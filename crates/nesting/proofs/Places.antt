@@ -16,10 +16,11 @@ use Rattle.tables.specs.Value.{is_claim, value_of}
 use Rattle.tables.specs.declared.Place.{Place}
 use Rattle.tables.specs.declared.Place.TheVariants.{Argument, Result, Nowhere}
 use Rattle.tables.specs.declared.Claim.{Claim}
-use Rattle.tables.specs.declared.Claim.TheVariants.{Result as claims, Nothing}
+use Rattle.std.specs.Prelude as std
+use Rattle.std.specs.Prelude.{Some, None}
 use Rattle.nesting.specs.In.{In, here, later}
 use Rattle.nesting.specs.Live.{nth, nesting_of, Real, value_at}
-use Rattle.nesting.specs.Passed.{all_arguments, Single}
+use Rattle.nesting.specs.Passed.{all_arguments, Single, claims}
 use Rattle.nesting.proofs.Lists.{in_flat, in_below, below_in}
 use Rattle.nesting.proofs.Past.{arguments_past, row_in}
 use Rattle.nesting.proofs.Counts.{count_append, count_in, in_nth, find_is, position_none, position_is}
@@ -42,12 +43,12 @@ module _ (x : Tables) (v : ℕ) where
       let t : 1 ≤ count v (flat (arguments x) js) = count_in (in_flat (arguments x) m (in_nth (arguments x j) k v e)) in
       rw (position_none v 0 (arguments x i) (omega arith)) (among j k p m e (omega arith))
 
-  is_claim_lem : (i k : ℕ) (c : Claim) → is_claim i k c ≡ true → c ≡ claims i k
-  is_claim_lem i k Nothing e = let z : ◌≡◌ {A = ℕ} 0 1 = cc in absurd (omega arith)
-  is_claim_lem i k (claims i' k') e = go (eqb i' i) refl (eqb k' k) refl
+  is_claim_lem : (i k : ℕ) (c : std.Option Claim) → is_claim i k c ≡ true → c ≡ claims i k
+  is_claim_lem i k None e = let z : ◌≡◌ {A = ℕ} 0 1 = cc in absurd (omega arith)
+  is_claim_lem i k (Some c) e = go (eqb c.operation i) refl (eqb c.index k) refl
     where
-      go : (a : Bool) → eqb i' i ≡ a → (b : Bool) → eqb k' k ≡ b → claims i' k' ≡ claims i k
-      go true p true q = rw (eqb-true i' i p, eqb-true k' k q)
+      go : (a : Bool) → eqb c.operation i ≡ a → (b : Bool) → eqb c.index k ≡ b → Some c ≡ claims i k
+      go true p true q = rw (eqb-true c.operation i p, eqb-true c.index k q)
       go true p false q = let z : ◌≡◌ {A = Bool} false true = rw (p, q) at e in cc
       go false p b q = let z : ◌≡◌ {A = Bool} false true = rw p at e in cc
 
@@ -119,11 +120,17 @@ find_some p (later {x = y} {xs = ys} m) e = go (p y) (find_some p m e)
     go false h = h
 
 module _ (x : Tables) (g : Single x) (v : ℕ) (h : v < x.counts.values) where
-  claimed_at : (c : Claim) → claim x v ≡ c → (claimed x c ≡ Nowhere) ⊎ (value_at x (claimed x c) ≡ some v)
+  claimed_at : (c : std.Option Claim) → claim x v ≡ c → (claimed x c ≡ Nowhere) ⊎ (value_at x (claimed x c) ≡ some v)
   unfolding value_at value_of
-  claimed_at Nothing e = inl refl
-  claimed_at (claims i k) e = go (declared x i k) refl
+  claimed_at None e = inl refl
+  claimed_at (Some c) e = go (declared x i k) refl
     where
+      i : ℕ
+      i = c.operation
+
+      k : ℕ
+      k = c.index
+
       is_own : is_claim i k (claim x v) ≡ true
       is_own = rw (e, eq-eqb i i refl, eq-eqb k k refl)
 

@@ -1,7 +1,8 @@
 -- Numbering: "Arguments take the next numbers, then per operation: operands are looked up (8), the count is compared (6), results take the
 -- next numbers (7 where one is missing), then each nested block is walked. When a nested block ends, its numbers are free again. The list
 -- is operand numbers in walk order, function after function". A number is a position among the live places.
-use Rattle.std.specs.Prelude.{ℕ, suc, Bool, false, cond, List, [], ◌∷◌, ◌++◌, length, eqb, Option, Some, None}
+use Rattle.std.specs.Prelude as std
+use Rattle.std.specs.Prelude.{ℕ, suc, Bool, false, cond, List, [], ◌∷◌, ◌++◌, length, eqb, Some, None}
 use Rattle.std.proofs.Math.Option.{Option, some, none}
 use Rattle.cells.specs.Lists.{below}
 use Rattle.tables.specs.Tables.{Tables, opcode, operands, result_types}
@@ -55,7 +56,7 @@ look x live i k [] = fine []
 look x live i k (v ∷ vs) = join (found (number x v live) (NoNumber i k)) (look x live i (suc k) vs)
 
 -- "result count differs from the sheet's | operation, its count"
-abbrev pub counted : Option ℕ → ℕ → ℕ → Listing ℕ
+abbrev pub counted : std.Option ℕ → ℕ → ℕ → Listing ℕ
 counted None i n = fine []
 counted (Some m) i n = cond (eqb m n) (fine []) (refused (ResultCount i n))
 

@@ -1,8 +1,12 @@
 -- What codes 1, 2 and 4 hand over where they pass. The theorems on live values and on numbers ask for these alone.
-use Rattle.std.specs.Prelude.{ℕ, ◌<◌, ◌≤◌, ◌≡◌, true, List, ◌++◌}
+use Rattle.std.specs.Prelude.{ℕ, ◌<◌, ◌≤◌, ◌≡◌, true, List, ◌++◌, Option, Some}
 use Rattle.cells.specs.Lists.{below, flat, count}
 use Rattle.tables.specs.Tables.{Tables, functions, regions, blocks, operations, arguments, claim, declared}
-use Rattle.tables.specs.declared.Claim.TheVariants.{Result}
+use Rattle.tables.specs.declared.Claim.{Claim}
+
+-- a value's claim to be result k of operation i
+abbrev pub claims : ℕ → ℕ → Option Claim
+claims i k = Some (record { operation = i; index = k })
 
 -- "an operation, block, region or function is listed twice, in one list or two; a function stands inside a block": none is
 pub record Apart (x : Tables) : Type 0 where
@@ -19,6 +23,6 @@ all_arguments x = flat (arguments x) (below x.counts.blocks)
 pub record Single (x : Tables) : Type 0 where
   pub in_range : (v : ℕ) → 1 ≤ count v (all_arguments x) → v < x.counts.values
   pub listed_once : (v : ℕ) → v < x.counts.values → count v (all_arguments x) ≤ 1
-  pub not_both : (v i k : ℕ) → v < x.counts.values → claim x v ≡ Result i k → declared x i k ≡ true → count v (all_arguments x) ≡ 0
-  pub one_claim : (v w i k : ℕ) → v < x.counts.values → w < x.counts.values → claim x v ≡ Result i k → claim x w ≡ Result i k
+  pub not_both : (v i k : ℕ) → v < x.counts.values → claim x v ≡ claims i k → declared x i k ≡ true → count v (all_arguments x) ≡ 0
+  pub one_claim : (v w i k : ℕ) → v < x.counts.values → w < x.counts.values → claim x v ≡ claims i k → claim x w ≡ claims i k
       → declared x i k ≡ true → v ≡ w

@@ -1,12 +1,13 @@
 -- What becomes live and is rolled back: values that fit are taken up as they stand, and what was live before is still at the front.
 -- Assumes nothing.
-use Prim.Native.Nat.{ℕ, suc, ◌+◌, ◌<◌, ◌≤◌}
+use Prim.Native.Nat.{ℕ, zero, suc, ◌+◌, ◌<◌, ◌≤◌}
+use native.Mathlib.Numerals.{add-one}
 use native.Mathlib.Omega.{arith}
 use mathlib.Core.Path.{◌≡◌, refl, sym, ap, ◌∙◌, subst}
 use mathlib.Core.Bool.{Bool, true, false, cond, ◌||◌}
 use mathlib.Core.Option.{some}
 use mathlib.Core.List.{List, [], ◌∷◌, ◌++◌, append_assoc, append-nil}
-use lib.ListN.{length, take, length-append}
+use lib.ListN.{length, take, get_or, length-append}
 use lib.Seq.{take_at, take-take, length-take-le}
 use lib.Dec.{eqb, ltb}
 use borrow.Author.Tests.{eq-eqb, lt-ltb}
@@ -17,7 +18,11 @@ use Rattle.nesting.specs.Fits.{Fits}
 use Rattle.nesting.specs.Means.{given}
 use Rattle.nesting.proofs.Lists.{in_right}
 use Rattle.nesting.proofs.Counts.{count_append}
-use Rattle.scope.specs.Stack.{see, see_all, Shows}
+use Rattle.std.specs.Prelude as std
+use Rattle.std.specs.Prelude.{Some, None}
+use Rattle.std.specs.Option.{is_some}
+use Rattle.scope.specs.Stack.{see, see_all, Shows, Holds, number_in}
+use Rattle.scope.specs.declared.Live.{Live}
 
 -- ---- the test of being live, as a count and as a position
 
@@ -36,6 +41,10 @@ count_mem v (x ∷ xs) e = go (eqb x v) refl (count_mem v xs)
     go : (t : Bool) → eqb x v ≡ t → (count v xs ≡ 0 → mem v xs ≡ false) → mem v (x ∷ xs) ≡ false
     go true q h = let z : 1 + count v xs ≡ 0 = rw q at e in absurd (omega arith)
     go false q h = let z : 0 + count v xs ≡ 0 = rw q at e in rw q (h (omega arith))
+
+pub some_given : (k : std.Option ℕ) → is_some k ≡ given (number_in k)
+some_given (Some k) = refl
+some_given None = refl
 
 pub mem_position : (v s : ℕ) (xs : List ℕ) → given (position_from s v xs) ≡ mem v xs
 mem_position v s [] = refl
@@ -61,6 +70,13 @@ grows nv live (v ∷ more) f =
     ap (λ (xs : List ℕ). see_all nv xs more) (see_fits nv live v more f)
     ∙ grows nv (live ++ (v ∷ [])) more (subst (Fits nv) e f)
     ∙ sym e
+
+-- value after value
+pub see_next : (nv : ℕ) (live vs : List ℕ) (i : ℕ) → i < length vs → see_all nv live (take (i + 1) vs) ≡ see nv (see_all nv live (take i vs)) (get_or vs i 0)
+see_next nv live [] i h = absurd (omega arith)
+see_next nv live (v ∷ vs) zero h = refl
+see_next nv live (v ∷ vs) (suc i) h =
+    rw (add-one (suc i)) (rw (add-one i) at (see_next nv (see nv live v) vs i (omega arith)))
 
 -- ---- what was live stays at the front
 
@@ -117,3 +133,17 @@ rolled {d = d} {n = n} {n₀ = n₀} {live = live} {live₀ = live₀} h p h₀ 
       };
       shows = sym (take-take n₀ n d long) ∙ ap (take n₀) (h.shows ∙ p.is) ∙ take_at live₀ p.more n₀ (shows_count h₀);
     }
+
+-- ---- the stack as one value
+
+-- a new stack holds nothing, and has room where there are no more values than places
+pub holds_none : {N : ℕ} (nv : ℕ) (stack : Live N) → stack.values ≡ nv → nv ≤ length stack.dense → nv ≤ length stack.sparse → Holds nv stack 0 []
+holds_none nv stack e hd hs = record { count = e; shown = shows_none nv stack.dense stack.sparse hd hs }
+
+-- what is live may be forgotten
+pub holds_clear : {nv N : ℕ} {stack : Live N} {n : ℕ} {live : List ℕ} → Holds nv stack n live → Holds nv stack 0 []
+holds_clear {nv} {stack = stack} h = holds_none nv stack h.count h.shown.stack.dense_room h.shown.stack.sparse_room
+
+pub holds_back : {nv N : ℕ} {stack stack₀ : Live N} {n n₀ : ℕ} {live live₀ : List ℕ}
+    → Holds nv stack n live → Begins live₀ live → Holds nv stack₀ n₀ live₀ → Holds nv stack n₀ live₀
+holds_back h p h₀ = record { count = h.count; shown = rolled h.shown p h₀.shown }

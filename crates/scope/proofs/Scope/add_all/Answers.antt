@@ -1,26 +1,14 @@
 -- `add_all`: value after value. Assumes nothing.
-use mathlib.Core.Path.{◌≡◌, sym, ap, ◌∙◌}
-use Rattle.cells.proofs.Parts.{left_step, left_end}
-use Rattle.scope.specs.Stack.{see_all}
+use mathlib.Core.Path.{◌∙◌}
+use lib.Seq.{take_all}
+use Rattle.scope.proofs.Laws.{see_next}
 use Rattle.scope.proofs.Scope.add_all.Goals as goal
 
-pub loop-i-preserved : goal.loop-i-preserved
-loop-i-preserved c = record {
-  dense_long = c.add-scope.auto.dense ∙ c.loop-i.invariant.dense_long;
-  sparse_long = c.add-scope.auto.sparse ∙ c.loop-i.invariant.sparse_long;
-  depth = c.add-scope.ensures.depth_value ∙ c.loop-i.invariant.depth;
-  reached = λ live g.
-      let r = c.loop-i.invariant.reached live g in
-      record {
-        now_live = _;
-        stack = c.add-scope.ensures.by_index r.now_live r.stack;
-        sees = sym (ap (see_all c.args.nv r.now_live) (left_step c.args.values.now c.loop-i.i 0 c.loop-i-test.true)) ∙ r.sees;
-      };
-}
+pub loop-v-preserved : goal.loop-v-preserved
+loop-v-preserved g c = (
+  c.add-scope.ensures.depth_value ∙ c.loop-v.invariant.0,
+  λ nv live h. rw (see_next nv live c.args.values.now c.loop-v.v-index c.loop-v-test.true) (c.add-scope.ensures.by_index nv _ (c.loop-v.invariant.1 nv live h)),
+)
 
 pub returns-clause-by_index : goal.returns-clause-by_index
-returns-clause-by_index c = λ live g.
-    let r = c.loop-i.invariant.reached live g in
-    let e : r.now_live ≡ see_all c.args.nv live c.args.values.now =
-    sym (ap (see_all c.args.nv r.now_live) (left_end c.args.values.now c.loop-i.i 0 c.loop-i-test.false)) ∙ r.sees in
-    rw e at r.stack
+returns-clause-by_index g c = λ nv live h. rw (take_all c.loop-v.v-index c.args.values.now c.loop-v-test.false) at (c.loop-v.invariant.1 nv live h)
