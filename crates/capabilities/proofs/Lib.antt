@@ -1,5 +1,4 @@
 pub mod Marks
-pub mod Row
-pub mod Told
+pub mod Rows
 pub mod Laws
 pub mod Cards

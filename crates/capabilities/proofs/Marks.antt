@@ -5,10 +5,11 @@ use mathlib.Core.Path.{◌≡◌, refl, sym, ap, ◌∙◌}
 use mathlib.Core.Bool.{Bool, true, false}
 use mathlib.Core.List.{List}
 use lib.Dec.{eqb}
-use lib.ListN.{length, get_or, set, replicate, get_or-replicate, length-replicate, get_or-eq_default}
+use lib.ListN.{length, get_or, set}
 use lib.Seq.{get_or-set_same, get_or-set_other, set_out}
-use borrow.Author.Tests.{eqb-true, eqb-false, ne_eqb}
-use Rattle.tables.specs.Tables.{Tables, type_form, type_kind}
+use borrow.Author.Tests.{eqb-true, eqb-false}
+use Rattle.std.specs.Result.{is_ok}
+use Rattle.tables.specs.Answer.{Answer}
 use Rattle.std.specs.Prelude.{Ok, Option, Some, None, Result, Err, ⊤}
 use Rattle.tables.specs.declared.Target.{Target}
 use Rattle.requirements.specs.Feature.{requirement_of}
@@ -18,11 +19,14 @@ use Rattle.requirements.specs.declared.Unmet.{Unmet}
 use Rattle.requirements.specs.declared.Unmet.TheVariants.{VersionLow, ArchitectureNot}
 use Rattle.cells.proofs.Rows.{lt_or_ge}
 use mathlib.Core.Logic.{⊎_elim}
-use Rattle.capabilities.specs.Ask.{answered, ask, kind_asked}
+use Rattle.capabilities.specs.Ask.{answered, ask}
 use Rattle.capabilities.specs.Part.{Knows}
 
 impossible {ℓ} : {X : Type ℓ} → ◌≡◌ {A = ℕ} 0 1 → X
 impossible e = absurd (omega arith)
+
+untrue {ℓ} : {X : Type ℓ} → false ≡ true → X
+untrue e = impossible (cc)
 
 has_it : (i j f : ℕ) (m : Result ⊤ Unmet) → answered i f m ≡ Ok tt → answered j f m ≡ Ok tt
 has_it i j f (Ok tt) e = refl
@@ -34,31 +38,20 @@ unfolding ask
 any_operation g i j None e = refl
 any_operation g i j (Some f) e = has_it i j f (met_by (requirement_of f) g.version g.sm) e
 
+pub accepted : (a : Answer) → is_ok a ≡ true → a ≡ Ok tt
+accepted (Ok _) e = refl
+accepted (Err r) e = untrue e
+
 -- a mark, where there is one, is true
-pub marked : (g : Target) (kinds : List ℕ) (k mark : ℕ) → (mark ≡ 1 → ask g 0 (kind_feature k) ≡ Ok tt) → Knows g kinds → Knows g (set kinds k mark)
+pub marked : (g : Target) (kinds : List Bool) (k : ℕ) (mark : Bool) → (mark ≡ true → ask g 0 (kind_feature k) ≡ Ok tt) → Knows g kinds → Knows g (set kinds k mark)
 marked g kinds k mark h know j i q = by (eqb j k) refl
   where
     here : j ≡ k → ask g i (kind_feature j) ≡ Ok tt
     here e = ⊎_elim
-        (λ l. rw e (any_operation g 0 i (kind_feature k) (h (sym (get_or-set_same kinds k mark 0 l) ∙ ap (λ (n : ℕ). get_or (set kinds k mark) n 0) (sym e) ∙ q))))
-        (λ l. know j i (ap (λ (xs : List ℕ). get_or xs j 0) (sym (set_out kinds k mark l)) ∙ q))
+        (λ l. rw e (any_operation g 0 i (kind_feature k) (h (sym (get_or-set_same kinds k mark false l) ∙ ap (λ (n : ℕ). get_or (set kinds k mark) n false) (sym e) ∙ q))))
+        (λ l. know j i (ap (λ (xs : List Bool). get_or xs j false) (sym (set_out kinds k mark l)) ∙ q))
         (lt_or_ge k (length kinds))
 
     by : (t : Bool) → eqb j k ≡ t → ask g i (kind_feature j) ≡ Ok tt
     by true e = here (eqb-true j k e)
-    by false e = know j i (sym (get_or-set_other kinds k j mark 0 (eqb-false j k e)) ∙ q)
-
--- nothing is marked in zeros
-pub unmarked : (g : Target) (n : ℕ) → Knows g (replicate n 0)
-unmarked g n k i q = impossible (sym (zero_at n k) ∙ q)
-  where
-    zero_at : (n k : ℕ) → ◌≡◌ {A = ℕ} (get_or {A = ℕ} (replicate n 0) k 0) 0
-    zero_at n k = ⊎_elim
-        (λ h. get_or-replicate n k 0 0 h)
-        (λ h. get_or-eq_default (replicate n 0) 0 (omega (arith, length-replicate {A = ℕ} n 0)))
-        (lt_or_ge k n)
-
--- what a type that is no token asks
-pub kinded : (x : Tables) (id form kind : ℕ) → form ≡ type_form x id → (form ≡ 0 → ⊥) → kind ≡ type_kind x id → kind_asked x id ≡ kind_feature kind
-unfolding kind_asked
-kinded x id form kind e f q = rw (← e, ne_eqb _ _ f, ← q)
+    by false e = know j i (sym (get_or-set_other kinds k j mark false (eqb-false j k e)) ∙ q)

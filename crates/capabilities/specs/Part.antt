@@ -1,21 +1,10 @@
--- The questions that an operation is asked, each over the tables that it reads: the parts of `operation_asks`.
-use Rattle.std.specs.Prelude.{ℕ, ◌≡◌, List, [], get_or, Ok}
-use Rattle.tables.specs.Tables.{Tables, lent, value_type}
+-- The questions that an operation is asked: the parts of `operation_asks`.
+use Rattle.std.specs.Prelude.{ℕ, ◌≡◌, List, Bool, true, false, get_or, Ok}
+use Rattle.tables.specs.Tables.{Tables, value_type}
 use Rattle.tables.specs.Answer.{Answer}
-use Rattle.tables.specs.declared.Counts.{Counts}
 use Rattle.tables.specs.declared.Target.{Target}
 use Rattle.requirements.specs.Kind.{kind_feature}
 use Rattle.capabilities.specs.Ask.{ask, kind_asked, attribute_asked}
-
--- the tables that an operation's attributes, its operands and its results are read off
-abbrev pub tables_of_attributes : List ℕ → List ℕ → List ℕ → Counts → Tables
-tables_of_attributes o a l n = lent [] [] o a [] [] [] l n
-
-abbrev pub tables_of_operands : List ℕ → List ℕ → Counts → Tables
-tables_of_operands t v n = lent t v [] [] [] [] [] [] n
-
-abbrev pub tables_of_types : List ℕ → Counts → Tables
-tables_of_types t n = lent t [] [] [] [] [] [] [] n
 
 -- attribute k, operand v and a result of type ty, of operation i
 abbrev pub attribute_asks : Target → Tables → ℕ → ℕ → Answer
@@ -28,5 +17,5 @@ abbrev pub result_asks : Target → Tables → ℕ → ℕ → Answer
 result_asks g x i = λ ty. ask g i (kind_asked x ty)
 
 -- what is marked of the kinds, once for a target: it has the feature of each kind that is marked
-abbrev pub Knows : Target → List ℕ → Type 0
-Knows g kinds = (k i : ℕ) → get_or kinds k 0 ≡ 1 → ask g i (kind_feature k) ≡ Ok tt
+abbrev pub Knows : Target → List Bool → Type 0
+Knows g kinds = (k i : ℕ) → get_or kinds k false ≡ true → ask g i (kind_feature k) ≡ Ok tt

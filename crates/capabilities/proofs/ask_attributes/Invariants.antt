@@ -1,13 +1,13 @@
 -- `ask_attributes`: what is left of the attributes answers the same. Assumes nothing.
 use Prim.Native.Nat.{◌-◌}
+use mathlib.Core.Path.{◌≡◌}
 use Rattle.cells.specs.Lists.{from}
-use Rattle.capabilities.specs.Part.{tables_of_attributes, attribute_asks}
-use Rattle.tables.proofs.Each.{EachLeft}
+use Rattle.tables.specs.Answer.{each}
+use Rattle.tables.specs.Tables.{attributes}
+use Rattle.capabilities.specs.Part.{attribute_asks}
 use Rattle.capabilities.proofs.ask_attributes.Given as goal
 
-abbrev pub invariant-loop-k : goal.invariant-loop-k
-invariant-loop-k z =
-    EachLeft (attribute_asks z.g (tables_of_attributes z.o z.a z.l z.n) z.operation) (from z.span.start z.span.len) 0 z.k
-
-abbrev pub decreases-loop-k : goal.decreases-loop-k
-decreases-loop-k z = z.span.len - z.k
+abbrev pub invariant-loop-attribute : goal.invariant-loop-attribute
+invariant-loop-attribute z =
+    each (attribute_asks z.g z.x z.operation) (attributes z.x z.operation)
+    ≡ each (attribute_asks z.g z.x z.operation) (from z.attribute (z.attribute-end - z.attribute))
