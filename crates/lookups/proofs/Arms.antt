@@ -2,12 +2,12 @@
 use Prim.Native.Nat.{ℕ}
 use mathlib.Core.Path.{◌≡◌}
 use mathlib.Core.Bool.{Bool, true, false}
-use Rattle.lookups.specs.Verdict.{fail_if, leave_if}
-use Rattle.lookups.specs.declared.Verdict.{Verdict}
-use Rattle.lookups.specs.declared.Verdict.TheVariants.{Broken, Leaves}
+use Rattle.std.specs.Prelude.{Err}
+use Rattle.lookups.specs.Verdict.{Verdict, fail_if, leave_if}
+use Rattle.lookups.specs.declared.Fault.TheVariants.{Broken, Leaves}
 
 module _ {test : Bool} where
-  pub fails : (reason : ℕ) (rest : Verdict) → test ≡ true → fail_if test reason rest ≡ Broken reason
+  pub fails : (reason : ℕ) (rest : Verdict) → test ≡ true → fail_if test reason rest ≡ Err (Broken reason)
   unfolding fail_if
   fails reason rest e = rw e
 
@@ -15,7 +15,7 @@ module _ {test : Bool} where
   unfolding fail_if
   passes reason rest e = rw e
 
-  pub leaves : (rest : Verdict) → test ≡ true → leave_if test rest ≡ Leaves
+  pub leaves : (rest : Verdict) → test ≡ true → leave_if test rest ≡ Err Leaves
   unfolding leave_if
   leaves rest e = rw e
 

@@ -1,5 +1,5 @@
 // What a rule reads of an operation: its attributes by name and form, and the types and tiles of its operands and its result.
-#![tactic(auto)]
+#![tactic(auto, using(crate::proofs::Rows::row_tile_by), unfolding(crate::specs::Lookup::is_taken, crate::specs::Lookup::first_in, crate::specs::Lookup::is_entry, crate::specs::Lookup::integer_in, crate::specs::Lookup::permutation_in, crate::specs::Lookup::segments_in, crate::specs::Lookup::segment_in, crate::specs::Lookup::flushes_in, crate::specs::Typed::operand_type_in, crate::specs::Typed::result_type_in, crate::specs::Typed::operand_tile_in, crate::specs::Typed::result_tile_in))]
 
 ghost use Rattle.std.specs.Prelude.{◌≡◌, Ok};
 ghost use Rattle.tiles.specs.Tile.{has_kind};
@@ -71,15 +71,11 @@ fn is_taken(wanted: Wanted, form: u64, first: u64) -> bool
     }
 }
 
-// The first number of an attribute, read where it stands: the list of them need not be cut out for it.
+// The first number of an attribute.
 fn first_number(x: &Tables<'_>, attribute: u64) -> u64
     ensures { result ≡ first_in x.now.a x.now.l x.now.counts attribute }
 {
-    let span = x.attribute_numbers_span(attribute);
-    if span.len == 0 {
-        return 0;
-    }
-    cells::at(x.entries(), span.start)
+    cells::at(x.attribute_numbers(attribute), 0)
 }
 
 // The attribute has this name and is as wanted.
@@ -97,6 +93,7 @@ fn is_entry(x: &Tables<'_>, attribute: u64, name: u64, wanted: Wanted) -> bool
 }
 
 // The first attribute of an operation with this name that is as wanted.
+#[tactic(auto, using(crate::proofs::Search::find_step, crate::proofs::Search::find_end), unfolding(crate::specs::Lookup::entry_in))]
 pub fn find(x: &Tables<'_>, operation: u64, name: u64, wanted: Wanted) -> Option<u64>
     ensures { result ≡ entry_of x.now operation name wanted }
 {

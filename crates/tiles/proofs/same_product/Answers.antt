@@ -1,4 +1,4 @@
--- `same_product` meets its contract: by what the products are.
+-- `same_product` meets its contract: two numbers are equal where their bits are.
 use Rattle.std.proofs.Common.{rules}
 use mathlib.Core.Path.{sym, ◌∙◌}
 use mir.Syntax.{w64}
@@ -6,8 +6,8 @@ use mir.Val.{SFits}
 use Rattle.tiles.proofs.Equal.{bits_test}
 use Rattle.tiles.proofs.same_product.Goals as goal
 
-pub returns-in-Some-q : goal.returns-in-Some-q
-returns-in-Some-q c =
-    let f : SFits w64 c.in-Some.x = search rules in
-    let g : SFits w64 c.in-Some-q.y = search rules in
-    bits_test f g ∙ sym (rw (c.in-Some.is, c.in-Some-q.is))
+pub returns-in-Some-Some : goal.returns-in-Some-Some
+returns-in-Some-Some c =
+    let f : SFits w64 c.in-Some-Some.x = search rules in
+    let g : SFits w64 c.in-Some-Some.y = search rules in
+    bits_test f g ∙ sym (rw (c.in-Some-Some.is-0, c.in-Some-Some.is-1))
