@@ -1,6 +1,6 @@
 -- The names that a rule looks up, with their numbers, and the numbers of the attribute forms.
 -- Paper: "Names are nonempty bytes; tables keep a number for each name a rule looks up and 0 for any other."
-use Rattle.std.specs.Prelude.{ℕ, suc, List, [], ◌∷◌, Bool, true, false, ◌&&◌, cond, eqb, get_or}
+use Rattle.std.specs.Prelude.{ℕ, suc, List, [], ◌∷◌, Bool, true, false, ◌&&◌, cond, eqb}
 use Prim.Native.Char.{code}
 use Prim.Native.String.{String, [] as []ˢ, ◌∷◌ as ◌∷ˢ◌}
 
@@ -33,10 +33,6 @@ names =
     bytes "operandSegmentSizes" ∷  -- 12
     bytes "flush_to_zero" ∷  -- 13
     []
-
--- the name with this number; no bytes where there is none
-abbrev pub name_of : ℕ → List ℕ
-name_of number = get_or ([] ∷ names) number []
 
 -- the number of the first of the names that has these bytes, the names counted from `from`; 0 where there is none
 abbrev pub number_from : ℕ → List (List ℕ) → List ℕ → ℕ

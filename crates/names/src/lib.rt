@@ -1,7 +1,7 @@
 #![tactic(auto)]
 
 ghost use Rattle.std.specs.Prelude.{◌≡◌};
-ghost use Rattle.names.specs.Names.{equal, name_of, number_of};
+ghost use Rattle.names.specs.Names.{number_of};
 
 // The names that a rule looks up; every other name has the number 0.
 pub const ROUNDING_MODE: u64 = 1;
@@ -49,55 +49,29 @@ pub const ENDPOINTS: u64 = 7;
 
 pub const OTHER: u64 = 8;
 
-// Whether two byte strings are equal.
-fn same(a: &[u8], b: &[u8]) -> bool
-    ensures { result ≡ equal a.now b.now }
-{
-    if a.len() != b.len() {
-        return false;
-    }
-    let mut i = 0;
-    while i < a.len() {
-        if a[i] != b[i] {
-            return false;
-        }
-        i += 1;
-    }
-    true
-}
+// The names, in the order of their numbers.
+const NAMES: [&[u8]; 13] = [
+    b"rounding_mode",
+    b"saturating",
+    b"inbounds",
+    b"fast_acc",
+    b"producer",
+    b"permutation",
+    b"mode",
+    b"memory_ordering_semantics",
+    b"memory_scope",
+    b"num_elem",
+    b"alignment",
+    b"operandSegmentSizes",
+    b"flush_to_zero",
+];
 
-// Whether the name is the one with this number.
-fn is_named(name: &[u8], number: u64) -> bool
-    ensures { result ≡ equal name.now (name_of number) }
-{
-    match number {
-        ROUNDING_MODE => same(name, b"rounding_mode"),
-        SATURATING => same(name, b"saturating"),
-        INBOUNDS => same(name, b"inbounds"),
-        FAST_ACC => same(name, b"fast_acc"),
-        PRODUCER => same(name, b"producer"),
-        PERMUTATION => same(name, b"permutation"),
-        MODE => same(name, b"mode"),
-        MEMORY_ORDERING_SEMANTICS => same(name, b"memory_ordering_semantics"),
-        MEMORY_SCOPE => same(name, b"memory_scope"),
-        NUM_ELEM => same(name, b"num_elem"),
-        ALIGNMENT => same(name, b"alignment"),
-        OPERAND_SEGMENT_SIZES => same(name, b"operandSegmentSizes"),
-        FLUSH_TO_ZERO => same(name, b"flush_to_zero"),
-        _ => same(name, b""),
-    }
-}
-
-// The number of a name: the first whose bytes it has.
+// The number of a name: its place among the names, from 1, and 0 of any other.
 pub fn name_number(name: &[u8]) -> u64
     ensures { result ≡ number_of name.now }
 {
-    let mut number: u64 = 1;
-    while number <= 13 {
-        if is_named(name, number) {
-            return number;
-        }
-        number += 1;
+    match NAMES.iter().position(|&n| name == n) {
+        Some(place) => place as u64 + 1,
+        None => 0,
     }
-    0
 }

@@ -1,31 +1,24 @@
--- `name_number` meets its contract: no name below the number has the bytes, so the search goes on from it.
-use native.Mathlib.Omega.{arith}
-use Prim.Native.Nat.{ℕ}
-use mathlib.Core.Path.{◌≡◌, refl, sym, ap, ◌∙◌}
-use Rattle.names.specs.Names.{names, number_of, number_from}
-use Rattle.names.proofs.Bytes.{from, here, next}
+-- `name_number` meets its contract: the place found is that of the first name with the bytes.
+use Rattle.std.proofs.Common.{◌≡◌, ◌∙◌, ap, sym, rules, tests, bytes_eq, Bor, List, ℕ}
+use Rattle.std.proofs.lemmas.Iterator.{YieldsList-from_slice}
+use Rattle.std.proofs.lemmas.Iterator.Search.{position_from_yields_List}
+use Rattle.names.specs.Names.{names, number_of}
+use Rattle.names.proofs.Bytes.{number_at, first_is}
+use Rattle.names.proofs.name_number.Goals.{After-position}
 use Rattle.names.proofs.name_number.Goals as goal
 
-pub loop-number-init : goal.loop-number-init
-unfolding number_of
-loop-number-init c =
-    (omega arith, refl)
-
-pub returns-then-is_named : goal.returns-then-is_named
-unfolding names
-returns-then-is_named c =
+found : (c : After-position) → number_at c.position.result ≡ number_of c.args.name.now
+unfolding names number_of
+found c =
     let name = c.args.name.now in
-    sym (c.loop-number.invariant.1 ∙ here name c.loop-number.number (omega arith) (sym c.is_named.ensures ∙ c.if-is_named.true))
+    first_is (λ (n : Bor (List ℕ)). n.now) name c.iter.ensures.rest
+    (position_from_yields_List (λ (n : Bor (List ℕ)). bytes_eq name n.now) _ _ c.position.result c.position.ensures.ran
+    (YieldsList-from_slice _ c.iter.ensures.rest) (λ x b q k. search (rules, tests)))
 
-pub loop-number-preserved : goal.loop-number-preserved
-unfolding names
-loop-number-preserved c =
-    let name = c.args.name.now in
-    (omega arith, c.loop-number.invariant.1 ∙ next name c.loop-number.number (omega arith) (sym c.is_named.ensures ∙ c.if-is_named.false))
+pub returns-in-Some : goal.returns-in-Some
+returns-in-Some c =
+    sym (ap number_at c.in-Some.is) ∙ found (goal.at.returns-in-Some c).After-position
 
-pub returns : goal.returns
-unfolding names
-returns c =
-    let name = c.args.name.now in
-    let e : c.loop-number.number ≡ 14 = omega arith in
-    sym (c.loop-number.invariant.1 ∙ ap (λ (n : ℕ). number_from n (from n) name) e)
+pub returns-in-None : goal.returns-in-None
+returns-in-None c =
+    sym (ap number_at c.in-None.is) ∙ found (goal.at.returns-in-None c).After-position
