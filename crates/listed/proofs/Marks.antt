@@ -12,10 +12,10 @@ use borrow.Author.Tests.{eqb-true, eqb-false, lt-ltb}
 use Rattle.cells.specs.Lists.{below, flat, count}
 use Rattle.cells.proofs.Parts.{left_step, left_end}
 use Rattle.listed.specs.Marks.{once_more, mark, mark_all, lowest_marked, lowest_seen}
-use Rattle.tables.specs.Sizes.{cut_counts}
+use Rattle.tables.specs.Tables.{Tables, cut, blocks, regions}
 use Rattle.tables.specs.declared.Counts.{Counts}
 use Rattle.tables.specs.Answer.{Answer}
-use Rattle.listed.specs.Twice.{lowest_twice, refused}
+use Rattle.listed.specs.Twice.{listed_operations, listed_blocks, listed_regions, lowest_twice, refused}
 use Rattle.listed.proofs.Find.{later, later_start, later_step, later_end, find_same}
 
 -- the mark of an id that is listed n times
@@ -79,14 +79,20 @@ unfolding lowest_twice lowest_marked
 seen_is size xs n h =
     find_same _ _ 0 n (λ i _ g. ap (ltb 1) (mark_of size xs i (omega arith)) ∙ cap_twice (count i xs))
 
--- the same of what is listed by tables whose counts are cut: `m` is what the code cut them to, `a` what it answered
-module _ (n m : Counts) (e : m ≡ cut_counts n) where
-  pub seen_cut : (list size : ℕ) (xs : Counts → List ℕ) (ids : Counts → ℕ) → ids (cut_counts n) ≤ size
-      → (a : Answer) → a ≡ refused list (lowest_seen size (xs m) (ids m)) → a ≡ refused list (lowest_twice (xs (cut_counts n)) (ids (cut_counts n)))
-  seen_cut list size xs ids h a q =
-      q
-      ∙ ap (λ (c : Counts). refused list (lowest_seen size (xs c) (ids c))) e
-      ∙ ap (refused list) (seen_is size (xs (cut_counts n)) (ids (cut_counts n)) h)
+-- the same of tables whose counts are cut: `y` is what the code cut them to, `a` what it answered
+module _ (x y : Tables) (e : y ≡ cut x) where
+  pub operations_seen : {a : Answer} → a ≡ refused 0 (lowest_seen 2048 (listed_operations y) y.counts.operations)
+      → a ≡ refused 0 (lowest_twice (listed_operations (cut x)) (cut x).counts.operations)
+  operations_seen q = q ∙ rw e (ap (refused 0) (seen_is 2048 (listed_operations (cut x)) (cut x).counts.operations (omega arith)))
+
+  module _ (n : Counts) (k : n ≡ y.counts) where
+    pub blocks_seen : {a : Answer} → a ≡ refused 1 (lowest_seen 512 (flat (blocks y) (below n.regions)) n.blocks)
+        → a ≡ refused 1 (lowest_twice (listed_blocks (cut x)) (cut x).counts.blocks)
+    blocks_seen q = q ∙ rw (k, e) (ap (refused 1) (seen_is 512 (listed_blocks (cut x)) (cut x).counts.blocks (omega arith)))
+
+    pub regions_seen : {a : Answer} → a ≡ refused 2 (lowest_seen 512 (flat (regions y) (below n.operations)) n.regions)
+        → a ≡ refused 2 (lowest_twice (listed_regions (cut x)) (cut x).counts.regions)
+    regions_seen q = q ∙ rw (k, e) (ap (refused 2) (seen_is 512 (listed_regions (cut x)) (cut x).counts.regions (omega arith)))
 
 mark_all_append : (m xs ys : List ℕ) → mark_all m (xs ++ ys) ≡ mark_all (mark_all m xs) ys
 mark_all_append m [] ys = refl
@@ -105,19 +111,17 @@ module _ (m whole xs : List ℕ) (i : ℕ) (inv : mark_all m (drop i xs) ≡ who
 
 -- the lists of the numbers below n, one after the other, i of them done
 abbrev pub Marking : (ℕ → List ℕ) → ℕ → List ℕ → ℕ → List ℕ → Type 0
-Marking f n old i m = (length m ≡ length old) × (mark_all m (flat f (later n i)) ≡ mark_all old (flat f (below n)))
+Marking f n old i m = mark_all m (flat f (later n i)) ≡ mark_all old (flat f (below n))
 
 pub lists_start : (f : ℕ → List ℕ) (n : ℕ) (old : List ℕ) → Marking f n old 0 old
-lists_start f n old = (refl, rw (later_start n))
+lists_start f n old = rw (later_start n)
 
 module _ (f : ℕ → List ℕ) (n : ℕ) (old : List ℕ) (i : ℕ) (m : List ℕ) (inv : Marking f n old i m) where
-  pub lists_step : (m' xs : List ℕ) → i < n → xs ≡ f i → length m' ≡ length m → m' ≡ mark_all m xs → Marking f n old (i + 1) m'
-  lists_step m' xs h e l k = (
-    l ∙ inv.0,
-    ap (λ (z : List ℕ). mark_all z (flat f (later n (i + 1)))) (k ∙ ap (mark_all m) e)
-        ∙ sym (mark_all_append m (f i) (flat f (later n (i + 1))))
-        ∙ (rw (later_step n i h) at inv.1),
-  )
+  pub lists_step : (m' xs : List ℕ) → i < n → xs ≡ f i → m' ≡ mark_all m xs → Marking f n old (i + 1) m'
+  lists_step m' xs h e k =
+      ap (λ (z : List ℕ). mark_all z (flat f (later n (i + 1)))) (k ∙ ap (mark_all m) e)
+      ∙ sym (mark_all_append m (f i) (flat f (later n (i + 1))))
+      ∙ (rw (later_step n i h) at inv)
 
   pub lists_end : n ≤ i → m ≡ mark_all old (flat f (below n))
-  lists_end h = rw (later_end n i h) at inv.1
+  lists_end h = rw (later_end n i h) at inv

@@ -10,6 +10,7 @@ ghost use Rattle.listed.specs.Twice.{listed_operations, refused, listed_twice};
 use tables::{Answer, Refusal, Tables};
 
 // A mark, once more.
+#[tactic(auto, unfolding(crate::specs::Marks::once_more))]
 fn once_more(m: u64) -> u64
     ensures { result ≡ once_more m }
 {
@@ -17,6 +18,7 @@ fn once_more(m: u64) -> u64
 }
 
 // One more of x.
+#[tactic(auto, unfolding(crate::specs::Marks::mark))]
 fn add_mark(marks: &mut [u64], x: u64)
     ensures { marks.new ≡ mark marks.old x }
 {
@@ -53,6 +55,7 @@ fn mark_functions(x: &Tables<'_>, marks: &mut [u64])
 }
 
 // The lowest of n ids that is marked more than once is refused, with the number of its kind.
+#[tactic(auto, using(crate::proofs::Find::later_start, crate::proofs::Find::find_step), unfolding(crate::specs::Marks::lowest_marked))]
 fn lowest_marked(marks: &[u64], n: u64, list: u64) -> Answer
     ensures { result ≡ refused list (lowest_marked marks.now n) }
 {
@@ -85,6 +88,7 @@ fn twice_listed<'a, F: Fn(u64) -> &'a [u64]>(count: u64, list: F, ids: u64, kind
 }
 
 // What is listed twice: operations before blocks before regions, the lowest id.
+#[tactic(auto, using(crate::proofs::Marks::seen_is), unfolding(crate::specs::Twice::listed_twice))]
 pub fn listed_twice(x: &Tables<'_>) -> Answer
     ensures { result ≡ listed_twice (cut x.now) }
 {
