@@ -1,3 +1,2 @@
 pub mod Either
 pub mod Signs
-pub mod Signature

@@ -1,4 +1,4 @@
--- Signed numbers by their bits: below 0 is the upper half, and an alignment is asked of the bits as of the number. Assumes nothing.
+-- An alignment is asked of the bits as of the number. Assumes nothing.
 use Prim.Native.Nat.{ℕ, zero, suc, ◌-◌, ◌^◌}
 use native.Mathlib.Omega.{arith}
 use mathlib.Core.Path.{◌≡◌, refl, sym, ◌∙◌}
@@ -6,7 +6,7 @@ use mathlib.Core.Bool.{Bool, true, false, not, cond, ◌||◌}
 use lib.Dec.{eqb, ltb, leb}
 use lib.IntN.{ℤ, pos, negsuc}
 use lib.Signed.{lt_z, le_z}
-use borrow.Author.Tests.{ltb-true, ltb-false, le-ltb, le-leb, lt-leb, ne_eqb}
+use borrow.Author.Tests.{le-ltb, lt-leb, ne_eqb}
 use Rattle.arith.specs.Signed.{signed_of}
 use Rattle.arith.specs.Power.{is_power_of_two}
 use Rattle.rules_small.proofs.Either.{or_false, or_true}
@@ -15,14 +15,6 @@ use Rattle.rules_small.specs.Memory.{is_negative, is_misaligned}
 -- the number, by whether its bits are in the lower half
 abbrev by : Bool → ℕ → ℤ
 by low b = cond low (pos b) (negsuc (2 ^ 64 - suc b))
-
-below : (b : ℕ) (low : Bool) → ltb b (2 ^ 63) ≡ low → lt_z (by low b) (pos 0) ≡ leb (2 ^ 63) b
-below b true e = let h = ltb-true b (2 ^ 63) e in le-ltb b 0 (omega arith) ∙ sym (lt-leb (2 ^ 63) b h)
-below b false e = sym (le-leb (2 ^ 63) b (ltb-false b (2 ^ 63) e))
-
-pub negative_by : (b : ℕ) → is_negative b ≡ leb (2 ^ 63) b
-unfolding is_negative signed_of
-negative_by b = below b (ltb b (2 ^ 63)) refl
 
 no_more : (b : ℕ) → eqb b 0 ≡ leb b 0
 no_more zero = refl
