@@ -1,3 +1,5 @@
+pub mod Kept
+pub mod Walk
 pub mod Moving
 pub mod Lists
 pub mod Fixed

@@ -5,32 +5,42 @@ use mathlib.Core.List.{List, [], ◌∷◌, ◌++◌}
 use mathlib.Core.Logic.{⊎_elim}
 use mathlib.Core.Path.{◌≡◌, refl, sym, ◌∙◌, ap}
 use native.Mathlib.Omega.{arith}
+use mathlib.Core.Bool.{cond}
+use lib.Dec.{leb}
 use lib.ListN.{length, drop, set}
 use lib.Seq.{sets, set_out}
+use borrow.Author.Tests.{le-leb, lt-leb}
 use Rattle.cells.proofs.Rows.{lt_or_ge}
 use Rattle.fields.specs.Cut.{end_from, split}
-use Rattle.fields.specs.Taken.{part_from, taken}
+use Rattle.fields.specs.Taken.{part_from, took, taken}
 use Rattle.fields.specs.declared.Taken.{Taken}
-use Rattle.fields.proofs.Parts.{split_cons, end_ge}
+use Rattle.fields.proofs.Parts.{end_ge, end_le}
 use Rattle.fields.proofs.Takes.{taken_bad, taken_is}
 use Rattle.lines.specs.Field.{ahead, items, list_of}
 use Rattle.lines.specs.Into.{onto, good_items, good_of, count_of, Left, left, list_into}
+use Rattle.lines.proofs.Kept.{impossible}
 use Rattle.lines.proofs.Moving.{from_last, from_more}
 
 -- ---- a run of writes
 
 -- past the end nothing is written
-pub sets_out : (l : List ℕ) (i : ℕ) (xs : List ℕ) → length l ≤ i → sets l i xs ≡ l
+pub sets_out : {A : Type 0} (l : List A) (i : ℕ) (xs : List A) → length l ≤ i → sets l i xs ≡ l
 sets_out l i [] h = refl
-sets_out l i (x ∷ xs) h = ap (λ (m : List ℕ). sets m (suc i) xs) (set_out l i x h) ∙ sets_out l (suc i) xs (omega arith)
+sets_out l i (x ∷ xs) h = ap (λ m. sets m (suc i) xs) (set_out l i x h) ∙ sets_out l (suc i) xs (omega arith)
 
 -- so a place is as good as the end of the list, where it is past it
-pub sets_min : (l : List ℕ) (i : ℕ) (xs : List ℕ) → sets l (min i (length l)) xs ≡ sets l i xs
+pub sets_min : {A : Type 0} (l : List A) (i : ℕ) (xs : List A) → sets l (min i (length l)) xs ≡ sets l i xs
 sets_min l i xs = ⊎_elim
     (λ h. let e : min i (length l) ≡ i = omega arith in ap (λ (j : ℕ). sets l j xs) e)
     (λ h. let e : min i (length l) ≡ length l = omega arith in
     ap (λ (j : ℕ). sets l j xs) e ∙ sets_out l (length l) xs (omega arith) ∙ sym (sets_out l i xs h))
     (lt_or_ge i (length l))
+
+-- and so is a place that no list reaches
+pub sets_far : {A : Type 0} (l : List A) (i far : ℕ) (xs : List A) → length l ≤ far → sets l (min i far) xs ≡ sets l i xs
+sets_far l i far xs h =
+    let e : min (min i far) (length l) ≡ min i (length l) = omega arith in
+    sym (sets_min l (min i far) xs) ∙ ap (λ (j : ℕ). sets l j xs) e ∙ sets_min l i xs
 
 -- two runs, one after the other
 pub sets_append : (l : List ℕ) (i : ℕ) (xs ys : List ℕ) → sets (sets l i xs) (i + length xs) ys ≡ sets l i (xs ++ ys)
@@ -129,36 +139,64 @@ module _ (f : List ℕ → Option ℕ) (start : ℕ) (s : List ℕ) (ss : List (
   unfolding run
   item_bad k = rw k
 
-run_end : (f : List ℕ → Option ℕ) (start n : ℕ) (l : List ℕ) → run f start [] n l ≡ left (Some n) l
-unfolding run
-run_end f start n l = refl
+-- the items from a place on; past the end there is none
+unfoldable pub rest_at : ℕ → List ℕ → List (List ℕ)
+rest_at p s = cond (leb p (length s)) (split 44 (drop p s)) []
+
+module _ (p : ℕ) (s : List ℕ) where
+  rest_gone : length s < p → rest_at p s ≡ []
+  unfolding rest_at
+  rest_gone h = rw (lt-leb p (length s) h)
+
+  rest_there : p ≤ length s → rest_at p s ≡ split 44 (drop p s)
+  unfolding rest_at
+  rest_there h = rw (le-leb p (length s) h)
+
+rest_here : (p : ℕ) (s : List ℕ) → p ≤ length s → rest_at p s ≡ part_from 44 p s ∷ rest_at (end_from 44 p s + 1) s
+rest_here p s h = ⊎_elim
+    (λ k. rest_there p s h ∙ from_more 44 p s h k
+    ∙ ap (λ (ss : List (List ℕ)). part_from 44 p s ∷ ss) (sym (rest_there (end_from 44 p s + 1) s (omega arith))))
+    (λ k. rest_there p s h ∙ from_last 44 p s h k
+    ∙ ap (λ (ss : List (List ℕ)). part_from 44 p s ∷ ss) (sym (rest_gone (end_from 44 p s + 1) s (omega arith))))
+    (lt_or_ge (end_from 44 p s) (length s))
+
+pub rest_all : (s : List ℕ) → rest_at 0 s ≡ split 44 s
+rest_all s = rest_there 0 s (omega arith)
 
 -- the item at the cursor p
-module _ (f : List ℕ → Option ℕ) (start p n : ℕ) (s l : List ℕ) (h : p ≤ length s) (r : Option Taken)
-    (e : r ≡ taken (f (part_from 44 p s)) (end_from 44 p s + 1)) where
-  pub list_stops : r ≡ None → left None l ≡ run f start (split 44 (drop p s)) n l
-  list_stops k =
-      let q = split_cons 44 (drop p s) in
-      sym (ap (λ (ss : List (List ℕ)). run f start ss n l) q.1
-      ∙ item_bad f start (part_from 44 p s) q.0 n l (taken_bad (f (part_from 44 p s)) (end_from 44 p s + 1) (sym e ∙ k)))
+module _ (f : List ℕ → Option ℕ) (start p n : ℕ) (s l : List ℕ) where
+  pub list_over : length s < p → left (Some n) l ≡ run f start (rest_at p s) n l
+  unfolding run
+  list_over h = rw (rest_gone p s h)
 
-  module _ (x q : ℕ) (k : r ≡ took x q) where
-    item_taken : (f (part_from 44 p s) ≡ Some x) × (q ≡ end_from 44 p s + 1)
-    item_taken = taken_is (f (part_from 44 p s)) (end_from 44 p s + 1) x q (sym e ∙ k)
+  module _ (h : p ≤ length s) (r : Option Taken) (e : r ≡ taken (f (part_from 44 p s)) (end_from 44 p s + 1)) where
+    pub list_stops : r ≡ None → left None l ≡ run f start (rest_at p s) n l
+    list_stops k =
+        sym (ap (λ (ss : List (List ℕ)). run f start ss n l) (rest_here p s h)
+        ∙ item_bad f start (part_from 44 p s) (rest_at (end_from 44 p s + 1) s) n l (taken_bad (f (part_from 44 p s)) (end_from 44 p s + 1) (sym e ∙ k)))
 
-    pub list_on : p < q
-    list_on = omega (arith, item_taken.1, end_ge 44 p (end_from 44 p s) s h refl)
+    module _ (x q : ℕ) (k : r ≡ took x q) where
+      item_taken : (f (part_from 44 p s) ≡ Some x) × (q ≡ end_from 44 p s + 1)
+      item_taken = taken_is (f (part_from 44 p s)) (end_from 44 p s + 1) x q (sym e ∙ k)
 
-    pub list_ends : length s < q → left (Some (n + 1)) (set l (start + n) x) ≡ run f start (split 44 (drop p s)) n l
-    list_ends o =
-        sym (ap (λ (ss : List (List ℕ)). run f start ss n l) (from_last 44 p s h (omega (arith, item_taken.1)))
-        ∙ item_is f start (part_from 44 p s) [] n l x item_taken.0 ∙ run_end f start (n + 1) (set l (start + n) x))
+      pub list_on : (p < q) × (q ≤ length s + 1)
+      list_on =
+          (omega (arith, item_taken.1, end_ge 44 p (end_from 44 p s) s h refl), omega (arith, item_taken.1, end_le 44 p (end_from 44 p s) s h refl))
 
-    pub list_goes : q ≤ length s → run f start (split 44 (drop q s)) (n + 1) (set l (start + n) x) ≡ run f start (split 44 (drop p s)) n l
-    list_goes o =
-        ap (λ (i : ℕ). run f start (split 44 (drop i s)) (n + 1) (set l (start + n) x)) item_taken.1
-        ∙ sym (ap (λ (ss : List (List ℕ)). run f start ss n l) (from_more 44 p s h (omega (arith, item_taken.1)))
-        ∙ item_is f start (part_from 44 p s) (split 44 (drop (end_from 44 p s + 1) s)) n l x item_taken.0)
+      pub list_goes : run f start (rest_at q s) (n + 1) (set l (start + n) x) ≡ run f start (rest_at p s) n l
+      list_goes =
+          ap (λ (i : ℕ). run f start (rest_at i s) (n + 1) (set l (start + n) x)) item_taken.1
+          ∙ sym (ap (λ (ss : List (List ℕ)). run f start ss n l) (rest_here p s h)
+          ∙ item_is f start (part_from 44 p s) (rest_at (end_from 44 p s + 1) s) n l x item_taken.0)
+
+-- ---- how many were read
+pub uncounted : (o : Option (List ℕ)) → count_of o ≡ None → o ≡ None
+uncounted None h = refl
+uncounted (Some xs) h = impossible (cc)
+
+pub counted : (o : Option (List ℕ)) (n : ℕ) → count_of o ≡ Some n → (xs : List ℕ) × (o ≡ Some xs) × (length xs ≡ n)
+counted None n h = impossible (cc)
+counted (Some xs) n h = let same : length xs ≡ n = cc in (xs, refl, same)
 
 -- ---- what the answer says: a count of the numbers read, which are those written; or that there is no such list
 module _ (f : List ℕ → Option ℕ) (at : ℕ) (s l w : List ℕ) where

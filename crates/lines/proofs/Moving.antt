@@ -5,13 +5,15 @@ use mathlib.Core.List.{List, [], ◌∷◌}
 use mathlib.Core.Logic.{⊎_elim}
 use mathlib.Core.Path.{◌≡◌, refl, sym, ◌∙◌, ap}
 use native.Mathlib.Omega.{arith}
+use native.Mathlib.Numerals.{add-one}
 use lib.ListN.{length, take, drop, drop_of_length-le}
 use lib.Seq.{take-nil}
 use Rattle.cells.proofs.Rows.{lt_or_ge}
 use Rattle.fields.specs.Cut.{until, end_from, split, nth}
 use Rattle.fields.specs.Number.{unsigned_of, signed_of}
-use Rattle.fields.specs.Taken.{part_from, taken, unsigned_from, signed_from}
+use Rattle.fields.specs.Taken.{part_from, took, taken, unsigned_from, signed_from}
 use Rattle.fields.specs.declared.Taken.{Taken}
+use Rattle.lines.specs.Place.{field_start}
 use Rattle.fields.proofs.Parts.{split_cons, end_le, part_is, at_last, at_more, until_end}
 use Rattle.fields.proofs.Takes.{taken_bad, taken_is}
 
@@ -68,42 +70,47 @@ nth_moves b p s j = ⊎_elim
     (λ h. nth_past b p s (suc j) h ∙ sym (nth_past b (end_from b p s + 1) s j (omega (arith, until_end b p s h))))
     (lt_or_ge p (length s))
 
--- ---- field k starts at p, and those after it follow
-unfoldable pub Starts : List ℕ → ℕ → ℕ → Type 0
-Starts s k p = (j : ℕ) → nth (k + j) (split 9 s) ≡ nth j (split 9 (drop p s))
+-- ---- the parts from field k on are those of the text from where it starts
+starts : (s : List ℕ) (k j : ℕ) → nth (k + j) (split 9 s) ≡ nth j (split 9 (drop (field_start k s) s))
+unfolding field_start
+starts s zero j = let e : 0 + j ≡ j = omega arith in rw e
+starts s (suc k) j =
+    let n : suc k + j ≡ k + suc j = omega arith in
+    ap (λ (i : ℕ). nth i (split 9 s)) n ∙ starts s k (suc j) ∙ nth_moves 9 (field_start k s) s j
 
-starts : (s : List ℕ) → Starts s 0 0
-unfolding Starts
-starts s j = let e : 0 + j ≡ j = omega arith in rw e
+pub next_start : (s : List ℕ) (k : ℕ) → field_start (k + 1) s ≡ end_from 9 (field_start k s) s + 1
+unfolding field_start
+next_start s k = ap (λ (i : ℕ). field_start i s) (add-one k)
 
-module _ (s : List ℕ) (k p : ℕ) (at : Starts s k p) where
-  pub next_starts : (q : ℕ) → q ≡ end_from 9 p s + 1 → Starts s (k + 1) q
-  unfolding Starts
-  next_starts q e j =
-      let n : k + 1 + j ≡ k + suc j = omega arith in
-      ap (λ (i : ℕ). nth i (split 9 s)) n ∙ at (suc j) ∙ nth_moves 9 p s j ∙ ap (λ (i : ℕ). nth j (split 9 (drop i s))) (sym e)
+pub start_first : (s : List ℕ) → 0 ≡ field_start 0 s
+unfolding field_start
+start_first s = refl
 
-  field_there : nth k (split 9 s) ≡ part_from 9 p s
-  unfolding Starts
-  field_there = let n : k ≡ k + 0 = omega arith in ap (λ (i : ℕ). nth i (split 9 s)) n ∙ at 0 ∙ nth_here 9 p s
+pub field_there : (s : List ℕ) (k : ℕ) → nth k (split 9 s) ≡ part_from 9 (field_start k s) s
+field_there s k =
+    let n : k ≡ k + 0 = omega arith in
+    ap (λ (i : ℕ). nth i (split 9 s)) n ∙ starts s k 0 ∙ nth_here 9 (field_start k s) s
+
+module _ (s : List ℕ) (k p : ℕ) (at : p ≡ field_start k s) where
+  pub starts_next : (e : ℕ) → e ≡ end_from 9 p s → e + 1 ≡ field_start (k + 1) s
+  starts_next e h = omega (arith, next_start s k, ap (λ (i : ℕ). end_from 9 i s) at)
 
   -- a field as it is lent
-  pub field_is : (q : ℕ) (r : List ℕ) → q ≡ end_from 9 p s + 1 → r ≡ take (q - 1 - p) (drop p s) → r ≡ nth k (split 9 s)
-  field_is q r e f =
-      let n : q - 1 - p ≡ end_from 9 p s - p = omega arith in
-      f ∙ ap (λ (i : ℕ). take i (drop p s)) n ∙ slice_part 9 p s ∙ sym field_there
+  pub field_is : (e : ℕ) (r : List ℕ) → e ≡ end_from 9 p s → r ≡ take (e - p) (drop p s) → r ≡ nth k (split 9 s)
+  field_is e r h f =
+      f ∙ ap (λ (i : ℕ). take (i - p) (drop p s)) h ∙ slice_part 9 p s ∙ ap (λ (i : ℕ). part_from 9 i s) at ∙ sym (field_there s k)
 
   -- a field that was taken as a number
   module _ (f : List ℕ → Option ℕ) (r : Option Taken) (e : r ≡ taken (f (part_from 9 p s)) (end_from 9 p s + 1)) where
+    there : nth k (split 9 s) ≡ part_from 9 p s
+    there = field_there s k ∙ ap (λ (i : ℕ). part_from 9 i s) (sym at)
+
     pub number_bad : r ≡ None → f (nth k (split 9 s)) ≡ None
-    number_bad h = ap f field_there ∙ taken_bad (f (part_from 9 p s)) (end_from 9 p s + 1) (sym e ∙ h)
+    number_bad h = ap f there ∙ taken_bad (f (part_from 9 p s)) (end_from 9 p s + 1) (sym e ∙ h)
 
     pub number_is : (n q : ℕ) → r ≡ took n q → f (nth k (split 9 s)) ≡ Some n
-    number_is n q h = ap f field_there ∙ (taken_is (f (part_from 9 p s)) (end_from 9 p s + 1) n q (sym e ∙ h)).0
+    number_is n q h = ap f there ∙ (taken_is (f (part_from 9 p s)) (end_from 9 p s + 1) n q (sym e ∙ h)).0
 
-    pub number_next : (n q : ℕ) → r ≡ took n q → Starts s (k + 1) q
-    number_next n q h = next_starts q (taken_is (f (part_from 9 p s)) (end_from 9 p s + 1) n q (sym e ∙ h)).1
-
--- after the tag
-pub first_starts : (s : List ℕ) (q : ℕ) → q ≡ end_from 9 0 s + 1 → Starts s 1 q
-first_starts s q e = next_starts s 0 0 (starts s) q e
+    pub number_next : (n q : ℕ) → r ≡ took n q → q ≡ field_start (k + 1) s
+    number_next n q h =
+        (taken_is (f (part_from 9 p s)) (end_from 9 p s + 1) n q (sym e ∙ h)).1 ∙ starts_next (end_from 9 p s) refl

@@ -412,15 +412,11 @@ fn numbers_into(field: &[u8], form: u64, at: u64, l: &mut [u64]) -> Option<Fille
         names::DIVISOR => divisor_into(field, at, l),
         names::SIZES => whole_into(field, Width::Signed(HALF_64), at, l),
         names::ENDPOINTS => endpoints_into(field, at, l),
-        _ => {
-            if !field.is_empty() {
-                return None;
-            }
-            Some(Filled {
-                count: 0,
-                missing: 0,
-            })
-        }
+        _ if field.is_empty() => Some(Filled {
+            count: 0,
+            missing: 0,
+        }),
+        _ => None,
     }
 }
 

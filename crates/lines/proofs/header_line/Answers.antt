@@ -1,41 +1,51 @@
--- `header_line` meets its contract: each way through it is the definition's.
-use mathlib.Core.Path.{refl}
+-- `header_line` meets its contract: field by field, as the definition goes.
+use borrow.Author.Tests.{eq-eqb, ne_eqb}
 use Rattle.lines.specs.Field.{integer64}
-use Rattle.lines.proofs.Fixed.{header_none, header_other, header_version, header_sm, header_row}
-use Rattle.lines.proofs.Moving.{first_starts, number_bad, number_is, number_next}
+use Rattle.lines.specs.Line.{header_line}
+use Rattle.lines.proofs.Walk.{first, next, took, fails}
 use Rattle.lines.proofs.header_line.Goals as goal
 
-pub returns-in_default : goal.returns-in_default
-returns-in_default c =
-    let s = c.args.line.now in
-    let one = first_starts s _ c.after.ensures in
-    header_none _ _ refl (number_bad s 1 _ one integer64 _ c.number_from-a.ensures c.in_default.is)
+pub returns-in_err-number : goal.returns-in_err-number
+unfolding header_line
+returns-in_err-number c =
+    let at = first c.new-rest.ensures.line c.new-rest.ensures.read in
+    let no = fails at integer64 c.number.ensures.number c.in_err-number.was c.from_residual.ensures.1 in
+    rw no.0 no.1
 
-pub returns-then-one-ne1 : goal.returns-then-one-ne1
-returns-then-one-ne1 c =
-    let s = c.args.line.now in
-    let one = first_starts s _ c.after.ensures in
-    header_other _ _ refl _ (number_is s 1 _ one integer64 _ c.number_from-a.ensures _ _ c.in-Number.is) c.if-one-ne1.true
+pub returns-then-branch-ne1 : goal.returns-then-branch-ne1
+unfolding header_line
+returns-then-branch-ne1 c =
+    let at = first c.new-rest.ensures.line c.new-rest.ensures.read in
+    let one = took at integer64 c.number.ensures.number c.in_ok-number.was in
+    rw (one, ne_eqb _ 1 c.if-branch-ne1.true)
 
-pub returns-in_default-b : goal.returns-in_default-b
-returns-in_default-b c =
-    let s = c.args.line.now in
-    let one = first_starts s _ c.after.ensures in
-    let two = number_next s 1 _ one integer64 _ c.number_from-a.ensures _ _ c.in-Number.is in
-    header_version _ _ refl _ (number_is s 1 _ one integer64 _ c.number_from-a.ensures _ _ c.in-Number.is) c.if-one-ne1.false _ refl (number_bad s 2 _ two integer64 _ c.number_from-b.ensures c.in_default-b.is)
+pub returns-in_err-version : goal.returns-in_err-version
+unfolding header_line
+returns-in_err-version c =
+    let at = first c.new-rest.ensures.line c.new-rest.ensures.read in
+    let one = took at integer64 c.number.ensures.number c.in_ok-number.was in
+    let at' = next at c.in_ok-number.ensures.line c.in_ok-number.ensures.read in
+    let no = fails at' integer64 c.number-2.ensures.number c.in_err-version.was c.from_residual-in_err-version.ensures.1 in
+    rw (one, eq-eqb _ 1 c.if-branch-ne1.false, no.0) no.1
 
-pub returns-in_default-d : goal.returns-in_default-d
-returns-in_default-d c =
-    let s = c.args.line.now in
-    let one = first_starts s _ c.after.ensures in
-    let two = number_next s 1 _ one integer64 _ c.number_from-a.ensures _ _ c.in-Number.is in
-    let three = number_next s 2 _ two integer64 _ c.number_from-b.ensures _ _ c.in-Number-b.is in
-    header_sm _ _ refl _ (number_is s 1 _ one integer64 _ c.number_from-a.ensures _ _ c.in-Number.is) c.if-one-ne1.false _ refl _ (number_is s 2 _ two integer64 _ c.number_from-b.ensures _ _ c.in-Number-b.is) _ refl (number_bad s 3 _ three integer64 _ c.number_from-d.ensures c.in_default-d.is)
+pub returns-in_err-sm : goal.returns-in_err-sm
+unfolding header_line
+returns-in_err-sm c =
+    let at = first c.new-rest.ensures.line c.new-rest.ensures.read in
+    let one = took at integer64 c.number.ensures.number c.in_ok-number.was in
+    let at' = next at c.in_ok-number.ensures.line c.in_ok-number.ensures.read in
+    let version = took at' integer64 c.number-2.ensures.number c.in_ok-version.was in
+    let at'' = next at' c.in_ok-version.ensures.line c.in_ok-version.ensures.read in
+    let no = fails at'' integer64 c.number-3.ensures.number c.in_err-sm.was c.from_residual-in_err-sm.ensures.1 in
+    rw (one, eq-eqb _ 1 c.if-branch-ne1.false, version, no.0) no.1
 
 pub returns : goal.returns
+unfolding header_line
 returns c =
-    let s = c.args.line.now in
-    let one = first_starts s _ c.after.ensures in
-    let two = number_next s 1 _ one integer64 _ c.number_from-a.ensures _ _ c.in-Number.is in
-    let three = number_next s 2 _ two integer64 _ c.number_from-b.ensures _ _ c.in-Number-b.is in
-    header_row _ _ refl _ (number_is s 1 _ one integer64 _ c.number_from-a.ensures _ _ c.in-Number.is) c.if-one-ne1.false _ refl _ (number_is s 2 _ two integer64 _ c.number_from-b.ensures _ _ c.in-Number-b.is) _ refl _ (number_is s 3 _ three integer64 _ c.number_from-d.ensures _ _ c.in-Number-d.is)
+    let at = first c.new-rest.ensures.line c.new-rest.ensures.read in
+    let one = took at integer64 c.number.ensures.number c.in_ok-number.was in
+    let at' = next at c.in_ok-number.ensures.line c.in_ok-number.ensures.read in
+    let version = took at' integer64 c.number-2.ensures.number c.in_ok-version.was in
+    let at'' = next at' c.in_ok-version.ensures.line c.in_ok-version.ensures.read in
+    let sm = took at'' integer64 c.number-3.ensures.number c.in_ok-sm.was in
+    rw (one, eq-eqb _ 1 c.if-branch-ne1.false, version, sm)

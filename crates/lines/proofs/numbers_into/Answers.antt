@@ -4,12 +4,9 @@ use Prim.Native.Nat.{ℕ}
 use mathlib.Core.Path.{sym, ◌∙◌, ap}
 use Rattle.lines.specs.Line.{numbers_of}
 use Rattle.lines.specs.Answer.{held_into, whole_into, numbers_written, numbers_into}
+use Rattle.fields.proofs.Digits.{none_left, some_left}
 use Rattle.lines.proofs.Attributes.{other_held, other_bad}
 use Rattle.lines.proofs.numbers_into.Goals as goal
-
-pub returns-then-field-eq0 : goal.returns-then-field-eq0
-returns-then-field-eq0 c =
-    other_held _ _ _ _ (omega arith) (omega arith) (omega arith) (omega arith) (omega arith) (omega arith) (omega arith) (omega arith) c.if-field-eq0.true
 
 pub returns-in-0 : goal.returns-in-0
 unfolding held_into whole_into numbers_of numbers_written numbers_into
@@ -59,6 +56,10 @@ returns-in-7 c =
     let a = c.args in
     c.endpoints_into.ensures ∙ ap (λ (k : ℕ). numbers_into k a.at a.field.now a.l.now) (sym c.in-7.is)
 
-pub returns-else-field-eq0 : goal.returns-else-field-eq0
-returns-else-field-eq0 c =
-    other_bad _ _ _ _ (omega arith) (omega arith) (omega arith) (omega arith) (omega arith) (omega arith) (omega arith) (omega arith) c.if-field-eq0.false
+pub returns-in_default : goal.returns-in_default
+returns-in_default c =
+    other_held _ _ _ _ (omega arith) (omega arith) (omega arith) (omega arith) (omega arith) (omega arith) (omega arith) (omega arith) (none_left c.is_empty.ensures c.if-is_empty.true)
+
+pub returns-in_default-2 : goal.returns-in_default-2
+returns-in_default-2 c =
+    other_bad _ _ _ _ (omega arith) (omega arith) (omega arith) (omega arith) (omega arith) (omega arith) (omega arith) (omega arith) (some_left c.is_empty.ensures c.if-is_empty.false)
