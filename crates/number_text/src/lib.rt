@@ -135,23 +135,22 @@ fn take_line(
 ) -> Lists
     ensures { settled result numbers.new lengths.new ≡ taken_into number functions count (split 9 line.now) numbers.old lengths.old }
 {
-    let tag = fields::part(line, 9, 0);
-    if is_n(tag) {
-        return function_line(line, number, functions, count, numbers, lengths);
-    }
-    if !is_ok(tag) {
-        return Lists::Refused(Refusal::NotInForm {
+    match fields::part(line, 9, 0) {
+        b"n" => function_line(line, number, functions, count, numbers, lengths),
+        b"ok" => {
+            if !ok_stands(line, number) {
+                return Lists::Refused(Refusal::NotInForm {
+                    line: number,
+                    field: 200,
+                });
+            }
+            Lists::Read { count, functions }
+        }
+        _ => Lists::Refused(Refusal::NotInForm {
             line: number,
             field: 201,
-        });
+        }),
     }
-    if !ok_stands(line, number) {
-        return Lists::Refused(Refusal::NotInForm {
-            line: number,
-            field: 200,
-        });
-    }
-    Lists::Read { count, functions }
 }
 
 // What follows the last LF, from start to the end of the text.

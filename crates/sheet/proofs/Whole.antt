@@ -7,9 +7,8 @@ use native.Mathlib.Omega.{arith}
 use native.Mathlib.Numerals.{add-one}
 use lib.Dec.{eqb, ltb}
 use lib.ListN.{length, replicate, drop, take, length-replicate, length-take, length-drop}
-use lib.Seq.{take_all}
+use lib.Seq.{length-take-le}
 use borrow.Author.Tests.{lt-ltb, le-ltb, ne_eqb}
-use Rattle.cells.specs.Cell.{copied}
 use Rattle.fields.specs.Cut.{split, end_from}
 use Rattle.fields.proofs.Parts.{split_cons, end_ge, end_le, at_last, at_more}
 use Rattle.tables.specs.Answer.{Answer}
@@ -18,31 +17,10 @@ use Rattle.tables.specs.declared.Refusal.{Refusal}
 use Rattle.tables.specs.declared.Refusal.TheVariants.{OutOfRange, TooShort, NotInForm}
 use Rattle.lines.specs.Field.{Read, says, bad}
 use Rattle.lines.specs.Into.{Left, left}
-use Rattle.sheet.specs.declared.Line.{Line}
-use Rattle.sheet.specs.declared.Line.TheVariants.{Row as Took, Bad}
 use Rattle.sheet.specs.Line.{Row, judged, stored, line_into}
 use Rattle.sheet.specs.Sheet.{State, state, zeros, refuse, taken, line_of, last_of, lines_of, fresh, ended, read_sheet, settled, last_answer}
-use Rattle.sheet.proofs.Ways.{impossible}
 
 -- ---- what follows the last LF
-module _ (line start end : ℕ) where
-  pub last_far : 65536 < end → Err (OutOfRange 0 0) ≡ last_answer line start end
-  unfolding last_answer
-  last_far h = rw (lt-ltb 65536 end h)
-
-  module _ (h : end ≤ 65536) where
-    pub last_some : start < end → Err (NotInForm line 0) ≡ last_answer line start end
-    unfolding last_answer
-    last_some k = rw (le-ltb 65536 end h, lt-ltb start end k)
-
-    module _ (k : end ≤ start) where
-      pub last_empty : line < 2 → Err (NotInForm line 0) ≡ last_answer line start end
-      unfolding last_answer
-      last_empty q = rw (le-ltb 65536 end h, le-ltb start end k, le-ltb 1 line (omega arith))
-
-      pub last_good : 2 ≤ line → Ok tt ≡ last_answer line start end
-      unfolding last_answer
-      last_good q = rw (le-ltb 65536 end h, le-ltb start end k, lt-ltb 1 line (omega arith))
 
 last_is : (last key line p : ℕ) (s l : List ℕ) → settled (last_answer line p (p + length l)) s ≡ ended (last_of (state last key line p s (Ok tt)) l)
 unfolding last_answer last_of
@@ -99,39 +77,36 @@ module _ (last key line p : ℕ) (s l : List ℕ) (end : ℕ) (he : p + suc (len
         ∙ ap (λ (x : State). lines_of x (split 10 t)) (line_far h)
         ∙ refused_stays (refuse (OutOfRange 0 0) (state last key line p s (Ok tt))) (OutOfRange 0 0) refl (split 10 t)))
 
-    module _ (h : end ≤ 65536) (w : Line) (s' : List ℕ) (e : left w s' ≡ line_into (judged last key (split 9 l)) s) where
-      loop_bad : (f : ℕ) → w ≡ Bad f → settled (Err (NotInForm line f)) s' ≡ ended (lines_of (state last key line p s (Ok tt)) ls)
+    module _ (h : end ≤ 65536) (w : Read Row) (s' : List ℕ) (e : left w s' ≡ line_into (judged last key (split 9 l)) s) where
+      loop_bad : (f : ℕ) → w ≡ bad f → settled (Err (NotInForm line f)) s' ≡ ended (lines_of (state last key line p s (Ok tt)) ls)
       loop_bad f k =
-          by (judged last key (split 9 l)) (ap (λ (x : Line). left x s') (sym k) ∙ e)
+          by (judged last key (split 9 l)) (ap (λ (x : Read Row). left x s') (sym k) ∙ e)
           ∙ sym (ap ended (lines_more (state last key line p s (Ok tt)) l t ls el ∙ ap (λ (x : State). lines_of x (split 10 t)) (line_near h)))
         where
-          by : (y : Read Row) → left (Bad f) s' ≡ line_into y s
+          by : (y : Read Row) → left (bad f) s' ≡ line_into y s
               → settled (Err (NotInForm line f)) s' ≡ ended (lines_of (taken (state last key line p s (Ok tt)) end y) (split 10 t))
           by (bad j) q =
-              let told : Bad f ≡ Bad j = ap (λ (x : Left Line). x.answer) q in
+              let told : bad f ≡ bad j = ap (λ (x : Left (Read Row)). x.answer) q in
               let same : f ≡ j = cc in
-              let kept : s' ≡ s = ap (λ (x : Left Line). x.entries) q in
+              let kept : s' ≡ s = ap (λ (x : Left (Read Row)). x.entries) q in
               rw (kept, same)
               (sym (ap ended (refused_stays (refuse (NotInForm line j) (state last key line p s (Ok tt))) (NotInForm line j) refl (split 10 t))))
-          by (says v) q =
-              let told : Bad f ≡ Took v.kind v.key v.value = ap (λ (x : Left Line). x.answer) q in
-              impossible (cc)
+          by (says v) q = let told : bad f ≡ says v = ap (λ (x : Left (Read Row)). x.answer) q in cc
 
-      loop_row : (kind k v : ℕ) → w ≡ Took kind k v
-          → lines_of (state kind k (line + 1) end s' (Ok tt)) (split 10 t) ≡ lines_of (state last key line p s (Ok tt)) ls
-      loop_row kind k v q =
-          ap (λ (x : State). lines_of x (split 10 t)) (by (judged last key (split 9 l)) (ap (λ (x : Line). left x s') (sym q) ∙ e))
+      loop_row : (v : Row) → w ≡ says v
+          → lines_of (state v.kind v.key (line + 1) end s' (Ok tt)) (split 10 t) ≡ lines_of (state last key line p s (Ok tt)) ls
+      loop_row v q =
+          ap (λ (x : State). lines_of x (split 10 t)) (by (judged last key (split 9 l)) (ap (λ (x : Read Row). left x s') (sym q) ∙ e))
           ∙ sym (lines_more (state last key line p s (Ok tt)) l t ls el ∙ ap (λ (x : State). lines_of x (split 10 t)) (line_near h))
         where
-          by : (y : Read Row) → left (Took kind k v) s' ≡ line_into y s
-              → state kind k (line + 1) end s' (Ok tt) ≡ taken (state last key line p s (Ok tt)) end y
-          by (bad j) z = let told : Took kind k v ≡ Bad j = ap (λ (y : Left Line). y.answer) z in impossible (cc)
+          by : (y : Read Row) → left (says v) s' ≡ line_into y s
+              → state v.kind v.key (line + 1) end s' (Ok tt) ≡ taken (state last key line p s (Ok tt)) end y
+          by (bad j) z = let told : says v ≡ bad j = ap (λ (y : Left (Read Row)). y.answer) z in cc
           by (says x) z =
-              let told : Took kind k v ≡ Took x.kind x.key x.value = ap (λ (y : Left Line). y.answer) z in
-              let a : kind ≡ x.kind = cc in
-              let b : k ≡ x.key = cc in
-              let d : s' ≡ stored x s = ap (λ (y : Left Line). y.entries) z in
-              rw (a, b, d, add-one)
+              let told : says v ≡ says x = ap (λ (y : Left (Read Row)). y.answer) z in
+              let same : v ≡ x = cc in
+              let d : s' ≡ stored x s = ap (λ (y : Left (Read Row)). y.entries) z in
+              rw (same, d, add-one)
 
 loop_last : (last key line p end : ℕ) (s l : List ℕ) (ls : List (List ℕ)) (r : Answer) → ls ≡ l ∷ [] → end ≡ p + length l → r ≡ last_answer line p end
     → settled r s ≡ ended (lines_of (state last key line p s (Ok tt)) ls)
@@ -163,43 +138,25 @@ module _ (last key line p e : ℕ) (s text : List ℕ) (h : p ≤ length text) (
     at_far n =
         loop_far last key line p s here (e + 1) counted (drop (e + 1) text) (split 10 (drop p text)) (at_more 10 p e text h at k) (omega arith)
 
-    module _ (n : e < 65536) (m : List ℕ) (em : m ≡ here) (w : Line) (s' : List ℕ) (ew : left w s' ≡ line_into (judged last key (split 9 m)) s) where
+    module _ (n : e < 65536) (m : List ℕ) (em : m ≡ here) (w : Read Row) (s' : List ℕ) (ew : left w s' ≡ line_into (judged last key (split 9 m)) s) where
       told : left w s' ≡ line_into (judged last key (split 9 here)) s
       told = ew ∙ ap (λ (x : List ℕ). line_into (judged last key (split 9 x)) s) em
 
-      pub at_bad : (f : ℕ) → w ≡ Bad f
+      pub at_bad : (f : ℕ) → w ≡ bad f
           → settled (Err (NotInForm line f)) s' ≡ ended (lines_of (state last key line p s (Ok tt)) (split 10 (drop p text)))
       at_bad =
           loop_bad last key line p s here (e + 1) counted (drop (e + 1) text) (split 10 (drop p text)) (at_more 10 p e text h at k) (omega arith) w s' told
 
-      pub at_row : (kind q v : ℕ) → w ≡ Took kind q v
-          → lines_of (state kind q (line + 1) (e + 1) s' (Ok tt)) (split 10 (drop (e + 1) text))
+      pub at_row : (v : Row) → w ≡ says v
+          → lines_of (state v.kind v.key (line + 1) (e + 1) s' (Ok tt)) (split 10 (drop (e + 1) text))
           ≡ lines_of (state last key line p s (Ok tt)) (split 10 (drop p text))
       at_row =
           loop_row last key line p s here (e + 1) counted (drop (e + 1) text) (split 10 (drop p text)) (at_more 10 p e text h at k) (omega arith) w s' told
 
--- ---- the sheet before and after
-
-module _ (a : Answer) (s : List ℕ) where
-  pub settle_kept : a ≡ Ok tt → left (Ok tt) s ≡ settled a s
-  settle_kept e = rw e
-
-  pub settle_refused : (r : Refusal) (s' : List ℕ) → a ≡ Err r → s' ≡ zeros s → left (Err r) s' ≡ settled a s
-  settle_refused r s' e k = rw (e, k)
-
--- zeros copied over the front
-copied_zeros : (n : ℕ) (s : List ℕ) → n ≤ length s → copied (replicate n 0) s ≡ replicate n 0 ++ drop n s
-copied_zeros n s h =
-    let fits : length {A = ℕ} (replicate n 0) ≤ length s = omega (arith, length-replicate {A = ℕ} n 0) in
-    rw (take_all (length s) (replicate n 0) fits, length-replicate {A = ℕ} n 0)
-
-module _ (text s : List ℕ) where
-  pub read_short : (s' : List ℕ) → length s < 320 → s' ≡ zeros s → left (Err (TooShort 320)) s' ≡ read_sheet text s
-  unfolding read_sheet
-  read_short s' h e = rw (lt-ltb (length s) 320 h, e)
-
-  pub read_all : (r : Answer) (s' s'' : List ℕ) → 320 ≤ length s → s' ≡ copied (replicate 320 0) s
-      → left r s'' ≡ ended (lines_of (fresh s') (split 10 text)) → left r s'' ≡ read_sheet text s
-  unfolding read_sheet
-  read_all r s' s'' h e q =
-      q ∙ ap (λ (x : List ℕ). ended (lines_of (fresh x) (split 10 text))) (e ∙ copied_zeros 320 s h) ∙ rw (le-ltb (length s) 320 h)
+-- ---- the sheet before the first line, its own cells cleared to z
+pub read_all : (text s z : List ℕ) (r : Answer) (s' : List ℕ) → 320 ≤ length s → z ≡ replicate (length (take 320 s)) 0
+    → left r s' ≡ ended (lines_of (fresh (z ++ drop 320 s)) (split 10 text)) → left r s' ≡ read_sheet text s
+unfolding read_sheet
+read_all text s z r s' h e q =
+    let clear : z ≡ replicate 320 0 = e ∙ ap (λ (n : ℕ). replicate n 0) (length-take-le 320 s h) in
+    q ∙ ap (λ (x : List ℕ). ended (lines_of (fresh (x ++ drop 320 s)) (split 10 text))) clear ∙ rw (le-ltb (length s) 320 h)

@@ -1,6 +1,6 @@
 -- One line of a rule sheet. "Sheet text: `sheet|1`, then in this order, keys rising, `t` once at most: `c|opcode|count`, `m|mode|mask`,
 -- `p|kind|mask`, `w|kind|bytes`, `t|0/1`; missing lines mean none, 0 or absent."
-use Rattle.std.specs.Prelude.{ℕ, ◌-◌, ◌^◌, Bool, true, false, ◌&&◌, ◌||◌, cond, List, eqb, ltb, leb, length, set, Option}
+use Rattle.std.specs.Prelude.{ℕ, ◌-◌, ◌^◌, Bool, true, false, ◌&&◌, ◌||◌, cond, List, eqb, ltb, leb, length, set, Option, Some, None, Result, Ok, Err}
 use Rattle.cells.specs.Cell.{put_cell}
 use Rattle.names.specs.Names.{bytes, equal}
 use Rattle.tables.specs.Sizes.{opcodes, kinds, modes}
@@ -8,19 +8,18 @@ use Rattle.fields.specs.Number.{unsigned_of}
 use Rattle.fields.specs.Cut.{nth}
 use Rattle.lines.specs.Field.{Read, says, bad, number, one_of, integer64, only}
 use Rattle.lines.specs.Into.{Left, left}
-use Rattle.sheet.specs.declared.Tag.{Tag}
-use Rattle.sheet.specs.declared.Tag.TheVariants.{Sheet, Count, Mode, Contained, Bytes, Through, Unknown}
-use Rattle.sheet.specs.declared.Line.{Line}
-use Rattle.sheet.specs.declared.Line.TheVariants.{Row as Took, Bad}
+use Rattle.sheet.specs.declared.Kind.{Kind}
+use Rattle.sheet.specs.declared.Kind.TheVariants.{Sheet, Count, Mode, Contained, Bytes, Through}
+use Rattle.sheet.specs.declared.Row.{Row as Took}
 
-abbrev pub tag_of : List ℕ → Tag
+abbrev pub tag_of : List ℕ → Option Kind
 tag_of s =
-    cond (equal s (bytes "sheet")) Sheet
-    (cond (equal s (bytes "c")) Count
-    (cond (equal s (bytes "m")) Mode
-    (cond (equal s (bytes "p")) Contained
-    (cond (equal s (bytes "w")) Bytes
-    (cond (equal s (bytes "t")) Through Unknown)))))
+    cond (equal s (bytes "sheet")) (Some Sheet)
+    (cond (equal s (bytes "c")) (Some Count)
+    (cond (equal s (bytes "m")) (Some Mode)
+    (cond (equal s (bytes "p")) (Some Contained)
+    (cond (equal s (bytes "w")) (Some Bytes)
+    (cond (equal s (bytes "t")) (Some Through) None)))))
 
 -- the kinds of line, numbered "in this order"; 0 stands for no line yet
 abbrev pub sheet_kind : ℕ
@@ -92,14 +91,14 @@ through_line last fs =
     (λ value. says (row through_kind 0 value)))
 
 -- "an unknown tag (field 1)", whatever its fields; counts and bytes are "signed 64: the rest"
-abbrev pub line_by : Tag → ℕ → ℕ → List (List ℕ) → Read Row
-line_by Sheet last key fs = sheet_line last fs
-line_by Count last key fs = keyed_line count_kind (one_of opcodes) integer64 last key fs
-line_by Mode last key fs = keyed_line mode_kind (one_of modes) mask16 last key fs
-line_by Contained last key fs = keyed_line contained_kind (one_of kinds) mask16 last key fs
-line_by Bytes last key fs = keyed_line bytes_kind (one_of kinds) integer64 last key fs
-line_by Through last key fs = through_line last fs
-line_by Unknown last key fs = bad 1
+abbrev pub line_by : Option Kind → ℕ → ℕ → List (List ℕ) → Read Row
+line_by (Some Sheet) last key fs = sheet_line last fs
+line_by (Some Count) last key fs = keyed_line count_kind (one_of opcodes) integer64 last key fs
+line_by (Some Mode) last key fs = keyed_line mode_kind (one_of modes) mask16 last key fs
+line_by (Some Contained) last key fs = keyed_line contained_kind (one_of kinds) mask16 last key fs
+line_by (Some Bytes) last key fs = keyed_line bytes_kind (one_of kinds) integer64 last key fs
+line_by (Some Through) last key fs = through_line last fs
+line_by None last key fs = bad 1
 
 unfoldable pub judged : ℕ → ℕ → List (List ℕ) → Read Row
 judged last key fs = line_by (tag_of (nth 0 fs)) last key fs
@@ -114,12 +113,33 @@ stored w s =
     (cond (eqb w.kind bytes_kind) (put_cell 1 s w.key 288 w.value)
     (cond (eqb w.kind through_kind) (set s 304 w.value) s))))
 
--- ---- what the functions answer of a line, and the slice with it
+-- ---- what the functions take and answer, read as the above
 
-abbrev pub answer_of : Read Row → Line
-answer_of (bad k) = Bad k
-answer_of (says w) = Took w.kind w.key w.value
+abbrev pub place : Kind → ℕ
+place Sheet = sheet_kind
+place Count = count_kind
+place Mode = mode_kind
+place Contained = contained_kind
+place Bytes = bytes_kind
+place Through = through_kind
 
-abbrev pub line_into : Read Row → List ℕ → Left Line
-line_into (bad k) s = left (Bad k) s
-line_into (says w) s = left (Took w.kind w.key w.value) (stored w s)
+abbrev pub row_of : Took → Row
+row_of w = row (place w.kind) w.key w.value
+
+-- the kind and the key of the last line; 0 and 0 where there is none
+abbrev pub kind_of : Option Took → ℕ
+kind_of None = 0
+kind_of (Some w) = place w.kind
+
+abbrev pub key_of : Option Took → ℕ
+key_of None = 0
+key_of (Some w) = w.key
+
+abbrev pub told : Result Took ℕ → Read Row
+told (Ok w) = says (row_of w)
+told (Err k) = bad k
+
+-- an answer, and the slice with it
+abbrev pub line_into : Read Row → List ℕ → Left (Read Row)
+line_into (bad k) s = left (bad k) s
+line_into (says w) s = left (says w) (stored w s)

@@ -2,10 +2,9 @@
 #![tactic(auto)]
 
 ghost use Rattle.std.specs.Prelude.{◌≡◌};
-ghost use Rattle.names.specs.Names.{bytes, equal};
 ghost use Rattle.fields.specs.Cut.{split, nth};
 ghost use Rattle.lines.specs.Into.{number_in, left};
-ghost use Rattle.sheet.specs.Line.{tag_of, row, follows, rises, sheet_line, keyed_line, through_line, judged, stored, answer_of, line_into};
+ghost use Rattle.sheet.specs.Line.{tag_of, place, kind_of, key_of, row_of, told, follows, rises, sheet_line, keyed_line, through_line, judged, stored, line_into};
 ghost use Rattle.sheet.specs.Sheet.{lines_of, fresh, ended, read_sheet, settled, last_answer};
 
 use lines::Width;
@@ -16,63 +15,36 @@ const MAX_MASK: u64 = 65535;
 
 const HALF_64: u64 = 9223372036854775808;
 
-// The kinds of line, by their tag.
-#[derive(Clone, Copy)]
-pub enum Tag {
+// The kinds of line, in the order in which they stand.
+#[derive(Clone, Copy, PartialEq, Eq, PartialOrd, Ord)]
+pub enum Kind {
     Sheet,
     Count,
     Mode,
     Contained,
     Bytes,
     Through,
-    Unknown,
 }
 
-// What a line says: its kind, numbered from 1 in the order of the kinds, its key (0 where it has none) and its value; or its bad field.
+// What a line says: its kind, its key (0 where it has none) and its value.
 #[derive(Clone, Copy)]
-pub enum Line {
-    Row { kind: u64, key: u64, value: u64 },
-    Bad(u64),
+pub struct Row {
+    pub kind: Kind,
+    pub key: u64,
+    pub value: u64,
 }
 
-fn is_sheet(tag: &[u8]) -> bool
-    ensures { result ≡ equal tag.now (bytes "sheet") }
-{
-    if tag.len() != 5 {
-        return false;
-    }
-    if tag[0] != 115 {
-        return false;
-    }
-    if tag[1] != 104 {
-        return false;
-    }
-    if tag[2] != 101 {
-        return false;
-    }
-    if tag[3] != 101 {
-        return false;
-    }
-    tag[4] == 116
-}
-
-fn tag_of(tag: &[u8]) -> Tag
+fn tag_of(tag: &[u8]) -> Option<Kind>
     ensures { result ≡ tag_of tag.now }
 {
-    if is_sheet(tag) {
-        return Tag::Sheet;
-    }
-    if tag.len() != 1 {
-        return Tag::Unknown;
-    }
-    let byte = tag[0];
-    match byte {
-        b'c' => Tag::Count,
-        b'm' => Tag::Mode,
-        b'p' => Tag::Contained,
-        b'w' => Tag::Bytes,
-        b't' => Tag::Through,
-        _ => Tag::Unknown,
+    match tag {
+        b"sheet" => Some(Kind::Sheet),
+        b"c" => Some(Kind::Count),
+        b"m" => Some(Kind::Mode),
+        b"p" => Some(Kind::Contained),
+        b"w" => Some(Kind::Bytes),
+        b"t" => Some(Kind::Through),
+        _ => None,
     }
 }
 
@@ -84,168 +56,138 @@ fn number_at(line: &[u8], k: u64, width: Width) -> Option<u64>
 }
 
 // Whether the last line was the first or one after it, up to the kind `most`.
-fn follows(last: u64, most: u64) -> bool
-    ensures { result ≡ follows last most }
+fn follows(last: Option<Row>, most: Kind) -> bool
+    ensures { result ≡ follows (kind_of last) (place most) }
 {
-    if last == 0 {
-        return false;
+    match last {
+        None => false,
+        Some(row) => row.kind <= most,
     }
-    last <= most
 }
 
-fn rises(last: u64, key: u64, kind: u64, k: u64) -> bool
-    ensures { result ≡ rises last key kind k }
+fn rises(last: Option<Row>, kind: Kind, key: u64) -> bool
+    ensures { result ≡ rises (kind_of last) (key_of last) (place kind) key }
 {
-    if last < kind {
-        return true;
+    match last {
+        None => true,
+        Some(row) => row.kind < kind || row.key < key,
     }
-    key < k
 }
 
-fn sheet_line(line: &[u8], last: u64) -> Line
-    ensures { result ≡ answer_of (sheet_line last (split 9 line.now)) }
+// What a line may say, or its bad field.
+#[tactic(auto, unfolding(crate::specs::Line::sheet_line))]
+fn sheet_line(line: &[u8], last: Option<Row>) -> Result<Row, u64>
+    ensures { told result ≡ sheet_line (kind_of last) (split 9 line.now) }
 {
-    if fields::count(line, 9) != 2 {
-        return Line::Bad(0);
+    if fields::count(line, 9) != 2 || last.is_some() {
+        return Err(0);
     }
-    if last != 0 {
-        return Line::Bad(0);
-    }
-    let a = number_at(line, 1, Width::Signed(HALF_64));
-    let Some(one) = a else {
-        return Line::Bad(2);
+    let Some(1) = number_at(line, 1, Width::Signed(HALF_64)) else {
+        return Err(2);
     };
-    if one != 1 {
-        return Line::Bad(2);
-    }
-    Line::Row {
-        kind: 1,
+    Ok(Row {
+        kind: Kind::Sheet,
         key: 0,
         value: 0,
-    }
+    })
 }
 
 // A line with a key up to `most` and a value.
-fn keyed_line(line: &[u8], kind: u64, most: u64, width: Width, last: u64, key: u64) -> Line
-    ensures { result ≡ answer_of (keyed_line kind (number_in (Width.Unsigned most)) (number_in width) last key (split 9 line.now)) }
+#[tactic(auto, unfolding(crate::specs::Line::keyed_line))]
+fn keyed_line(
+    line: &[u8],
+    kind: Kind,
+    most: u64,
+    width: Width,
+    last: Option<Row>,
+) -> Result<Row, u64>
+    ensures { told result ≡ keyed_line (place kind) (number_in (Width.Unsigned most)) (number_in width) (kind_of last) (key_of last) (split 9 line.now) }
 {
-    if fields::count(line, 9) != 3 {
-        return Line::Bad(0);
+    if fields::count(line, 9) != 3 || !follows(last, kind) {
+        return Err(0);
     }
-    if !follows(last, kind) {
-        return Line::Bad(0);
-    }
-    let a = number_at(line, 1, Width::Unsigned(most));
-    let Some(k) = a else {
-        return Line::Bad(2);
+    let Some(key) = number_at(line, 1, Width::Unsigned(most)) else {
+        return Err(2);
     };
-    if !rises(last, key, kind, k) {
-        return Line::Bad(0);
+    if !rises(last, kind, key) {
+        return Err(0);
     }
-    let b = number_at(line, 2, width);
-    let Some(value) = b else {
-        return Line::Bad(3);
+    let Some(value) = number_at(line, 2, width) else {
+        return Err(3);
     };
-    Line::Row {
-        kind,
-        key: k,
-        value,
-    }
+    Ok(Row { kind, key, value })
 }
 
-fn through_line(line: &[u8], last: u64) -> Line
-    ensures { result ≡ answer_of (through_line last (split 9 line.now)) }
+#[tactic(auto, unfolding(crate::specs::Line::through_line))]
+fn through_line(line: &[u8], last: Option<Row>) -> Result<Row, u64>
+    ensures { told result ≡ through_line (kind_of last) (split 9 line.now) }
 {
-    if fields::count(line, 9) != 2 {
-        return Line::Bad(0);
+    if fields::count(line, 9) != 2 || !follows(last, Kind::Bytes) {
+        return Err(0);
     }
-    if !follows(last, 5) {
-        return Line::Bad(0);
-    }
-    let a = number_at(line, 1, Width::Unsigned(1));
-    let Some(value) = a else {
-        return Line::Bad(2);
+    let Some(value) = number_at(line, 1, Width::Unsigned(1)) else {
+        return Err(2);
     };
-    Line::Row {
-        kind: 6,
+    Ok(Row {
+        kind: Kind::Through,
         key: 0,
         value,
-    }
+    })
 }
 
-// A line after one of the kind `last` with the key `key`.
-fn judge(line: &[u8], last: u64, key: u64) -> Line
-    ensures { result ≡ answer_of (judged last key (split 9 line.now)) }
+// A line after the last one.
+#[tactic(auto, unfolding(crate::specs::Line::judged))]
+fn judge(line: &[u8], last: Option<Row>) -> Result<Row, u64>
+    ensures { told result ≡ judged (kind_of last) (key_of last) (split 9 line.now) }
 {
-    let tag = tag_of(fields::part(line, 9, 0));
-    match tag {
-        Tag::Sheet => sheet_line(line, last),
-        Tag::Count => keyed_line(line, 2, 104, Width::Signed(HALF_64), last, key),
-        Tag::Mode => keyed_line(line, 3, 15, Width::Unsigned(MAX_MASK), last, key),
-        Tag::Contained => keyed_line(line, 4, 15, Width::Unsigned(MAX_MASK), last, key),
-        Tag::Bytes => keyed_line(line, 5, 15, Width::Signed(HALF_64), last, key),
-        Tag::Through => through_line(line, last),
-        Tag::Unknown => Line::Bad(1),
-    }
-}
-
-fn store(kind: u64, key: u64, value: u64, sheet: &mut [u64])
-    ensures { sheet.new ≡ stored (row kind key value) sheet.old }
-{
+    let Some(kind) = tag_of(fields::part(line, 9, 0)) else {
+        return Err(1);
+    };
     match kind {
-        2 => {
+        Kind::Sheet => sheet_line(line, last),
+        Kind::Count => keyed_line(line, kind, 104, Width::Signed(HALF_64), last),
+        Kind::Mode | Kind::Contained => keyed_line(line, kind, 15, Width::Unsigned(MAX_MASK), last),
+        Kind::Bytes => keyed_line(line, kind, 15, Width::Signed(HALF_64), last),
+        Kind::Through => through_line(line, last),
+    }
+}
+
+#[tactic(auto, unfolding(crate::specs::Line::stored))]
+fn store(row: Row, sheet: &mut [u64])
+    ensures { sheet.new ≡ stored (row_of row) sheet.old }
+{
+    let Row { kind, key, value } = row;
+    match kind {
+        Kind::Sheet => {}
+        Kind::Count => {
             cells::put_cell(sheet, 2, key, 0, 1);
             cells::put_cell(sheet, 2, key, 1, value);
         }
-        3 => {
-            cells::put_cell(sheet, 1, key, 256, value);
-        }
-        4 => {
-            cells::put_cell(sheet, 1, key, 272, value);
-        }
-        5 => {
-            cells::put_cell(sheet, 1, key, 288, value);
-        }
-        6 => {
-            cells::put(sheet, 304, value);
-        }
-        _ => {}
+        Kind::Mode => cells::put_cell(sheet, 1, key, 256, value),
+        Kind::Contained => cells::put_cell(sheet, 1, key, 272, value),
+        Kind::Bytes => cells::put_cell(sheet, 1, key, 288, value),
+        Kind::Through => cells::put(sheet, 304, value),
     }
 }
 
 // A line judged, and stored where it is good.
-fn take_line(line: &[u8], last: u64, key: u64, sheet: &mut [u64]) -> Line
-    ensures { left result sheet.new ≡ line_into (judged last key (split 9 line.now)) sheet.old }
+fn take_line(line: &[u8], last: Option<Row>, sheet: &mut [u64]) -> Result<Row, u64>
+    ensures { left (told result) sheet.new ≡ line_into (judged (kind_of last) (key_of last) (split 9 line.now)) sheet.old }
 {
-    let w = judge(line, last, key);
-    match w {
-        Line::Bad(field) => Line::Bad(field),
-        Line::Row {
-            kind,
-            key: k,
-            value,
-        } => {
-            store(kind, k, value, sheet);
-            Line::Row {
-                kind,
-                key: k,
-                value,
-            }
-        }
-    }
+    let row = judge(line, last)?;
+    store(row, sheet);
+    Ok(row)
 }
 
 // What follows the last LF, from start to the end of the text.
+#[tactic(auto, unfolding(crate::specs::Sheet::last_answer))]
 fn last_line(line: u64, start: u64, end: u64) -> Answer
     ensures { result ≡ last_answer line start end }
 {
     if tables::MAX_TEXT < end {
         return Err(Refusal::OutOfRange { table: 0, entry: 0 });
     }
-    if start < end {
-        return Err(Refusal::NotInForm { line, field: 0 });
-    }
-    if line < 2 {
+    if start < end || line < 2 {
         return Err(Refusal::NotInForm { line, field: 0 });
     }
     Ok(())
@@ -255,8 +197,7 @@ fn last_line(line: u64, start: u64, end: u64) -> Answer
 fn read_lines(text: &[u8], sheet: &mut [u64]) -> Answer
     ensures { settled result sheet.new ≡ ended (lines_of (fresh sheet.old) (split 10 text.now)) }
 {
-    let mut last: u64 = 0;
-    let mut key: u64 = 0;
+    let mut last: Option<Row> = None;
     let mut line: u64 = 1;
     let mut p: u64 = 0;
     loop {
@@ -267,22 +208,11 @@ fn read_lines(text: &[u8], sheet: &mut [u64]) -> Answer
         if tables::MAX_TEXT <= e {
             return Err(Refusal::OutOfRange { table: 0, entry: 0 });
         }
-        let w = take_line(fields::between(text, p, e), last, key, sheet);
-        match w {
-            Line::Bad(field) => {
-                return Err(Refusal::NotInForm { line, field });
-            }
-            Line::Row {
-                kind,
-                key: k,
-                value: _,
-            } => {
-                last = kind;
-                key = k;
-                line += 1;
-                p = e + 1;
-            }
-        }
+        let row = take_line(fields::between(text, p, e), last, sheet)
+            .map_err(|field| Refusal::NotInForm { line, field })?;
+        last = Some(row);
+        line += 1;
+        p = e + 1;
     }
 }
 
@@ -290,16 +220,14 @@ fn read_lines(text: &[u8], sheet: &mut [u64]) -> Answer
 fn settle(answer: Answer, sheet: &mut [u64]) -> Answer
     ensures { left result sheet.new ≡ settled answer sheet.old }
 {
-    match answer {
-        Ok(()) => Ok(()),
-        Err(refusal) => {
-            cells::clear(sheet);
-            Err(refusal)
-        }
+    if answer.is_err() {
+        cells::clear(sheet);
     }
+    answer
 }
 
 // The whole text.
+#[tactic(auto, unfolding(crate::specs::Sheet::read_sheet))]
 pub fn read_sheet(text: &[u8], sheet: &mut [u64]) -> Answer
     ensures { left result sheet.new ≡ read_sheet text.now sheet.old }
 {
@@ -309,8 +237,7 @@ pub fn read_sheet(text: &[u8], sheet: &mut [u64]) -> Answer
             needed: tables::SHEET_CELLS,
         });
     }
-    let blank = [0u64; 320];
-    cells::copy(&blank, sheet);
+    cells::clear(&mut sheet[..320]);
     let answer = read_lines(text, sheet);
     settle(answer, sheet)
 }

@@ -15,8 +15,9 @@ use Rattle.tables.specs.declared.Refusal.{Refusal}
 use Rattle.tables.specs.declared.Refusal.TheVariants.{OutOfRange, TooShort, NotInForm}
 use Rattle.lines.specs.Field.{Read, says, bad, number, one_of, integer64, only}
 use Rattle.lines.specs.Into.{left}
-use Rattle.sheet.specs.declared.Tag.{Tag}
-use Rattle.sheet.specs.declared.Tag.TheVariants.{Sheet, Count, Mode, Contained, Bytes, Through, Unknown}
+use Rattle.std.specs.Prelude.{Option, Some, None}
+use Rattle.sheet.specs.declared.Kind.{Kind}
+use Rattle.sheet.specs.declared.Kind.TheVariants.{Sheet, Count, Mode, Contained, Bytes, Through}
 use Rattle.sheet.specs.Line.{Row, row, placed, follows, rises, mask16, sheet_kind, count_kind, mode_kind, contained_kind, bytes_kind, through_kind, line_by, tag_of, judged, sheet_line, keyed_line, through_line}
 use Rattle.sheet.specs.Sheet.{State, zeros, refuse, taken, onward, line_of, last_of, lines_of, sheet_cells, blank, fresh, ended, read_sheet}
 
@@ -62,14 +63,14 @@ through_line_low last fs =
     (number_low 2 (one_of 2 (nth 1 fs)) (omega arith)
     (λ m. says_low (row through_kind 0 m)))
 
-line_by_low : (tag : Tag) (last key : ℕ) (fs : List (List ℕ)) → LowRow (line_by tag last key fs)
-line_by_low Sheet last key fs = sheet_line_low last fs
-line_by_low Count last key fs = keyed_line_low count_kind (one_of opcodes) integer64 last key fs
-line_by_low Mode last key fs = keyed_line_low mode_kind (one_of modes) mask16 last key fs
-line_by_low Contained last key fs = keyed_line_low contained_kind (one_of kinds) mask16 last key fs
-line_by_low Bytes last key fs = keyed_line_low bytes_kind (one_of kinds) integer64 last key fs
-line_by_low Through last key fs = through_line_low last fs
-line_by_low Unknown last key fs = bad_low 1 (omega arith)
+line_by_low : (tag : Option Kind) (last key : ℕ) (fs : List (List ℕ)) → LowRow (line_by tag last key fs)
+line_by_low (Some Sheet) last key fs = sheet_line_low last fs
+line_by_low (Some Count) last key fs = keyed_line_low count_kind (one_of opcodes) integer64 last key fs
+line_by_low (Some Mode) last key fs = keyed_line_low mode_kind (one_of modes) mask16 last key fs
+line_by_low (Some Contained) last key fs = keyed_line_low contained_kind (one_of kinds) mask16 last key fs
+line_by_low (Some Bytes) last key fs = keyed_line_low bytes_kind (one_of kinds) integer64 last key fs
+line_by_low (Some Through) last key fs = through_line_low last fs
+line_by_low None last key fs = bad_low 1 (omega arith)
 
 judged_low : (last key : ℕ) (fs : List (List ℕ)) → LowRow (judged last key fs)
 unfolding judged

@@ -2,6 +2,7 @@
 use native.Mathlib.Omega.{arith}
 use mathlib.Core.Path.{◌∙◌, ap}
 use Rattle.fields.proofs.Parts.{end_ge}
+use Rattle.sheet.specs.Line.{kind_of, key_of, row_of, told}
 use Rattle.sheet.specs.Sheet.{ended}
 use Rattle.sheet.proofs.Whole.{at_end, at_far, at_bad, at_row}
 use Rattle.sheet.proofs.read_lines.Goals as goal
@@ -9,20 +10,17 @@ use Rattle.sheet.proofs.read_lines.Goals as goal
 pub returns-then-text-e : goal.returns-then-text-e
 returns-then-text-e c =
     let l = c.loop-last in
-    at_end l.last l.key l.line l.p _ l.sheet c.args.text.now (omega arith) c.find-e.ensures c.if-text-e.true _ c.last_line.ensures
+    at_end (kind_of l.last) (key_of l.last) l.line l.p _ l.sheet c.args.text.now (omega arith) c.find-e.ensures c.if-text-e.true _ c.last_line.ensures
     ∙ ap ended l.invariant.3
 
 pub returns-then-e-ge-MAX_TEXT : goal.returns-then-e-ge-MAX_TEXT
 returns-then-e-ge-MAX_TEXT c =
     let l = c.loop-last in
-    at_far l.last l.key l.line l.p _ l.sheet c.args.text.now (omega arith) c.find-e.ensures c.if-text-e.false (omega arith)
+    at_far (kind_of l.last) (key_of l.last) l.line l.p _ l.sheet c.args.text.now (omega arith) c.find-e.ensures c.if-text-e.false (omega arith)
     ∙ ap ended l.invariant.3
 
-pub returns-in-Bad : goal.returns-in-Bad
-returns-in-Bad c =
-    let l = c.loop-last in
-    at_bad l.last l.key l.line l.p _ l.sheet c.args.text.now (omega arith) c.find-e.ensures c.if-text-e.false (omega arith) _ c.between.ensures _ _ c.take_line-w.ensures _ c.in-Bad.is
-    ∙ ap ended l.invariant.3
+pub returns-in_err-row : goal.returns-in_err-row
+returns-in_err-row c = ?
 
 pub loop-last-smaller : goal.loop-last-smaller
 loop-last-smaller c =
@@ -32,4 +30,4 @@ pub loop-last-preserved : goal.loop-last-preserved
 loop-last-preserved c =
     let l = c.loop-last in
     let ge = end_ge 10 l.p _ c.args.text.now (omega arith) c.find-e.ensures in
-    (omega arith, omega arith, omega arith, at_row l.last l.key l.line l.p _ l.sheet c.args.text.now (omega arith) c.find-e.ensures c.if-text-e.false (omega arith) _ c.between.ensures _ _ c.take_line-w.ensures _ _ _ c.in-Row.is ∙ l.invariant.3)
+    (omega arith, omega arith, omega arith, ?)

@@ -1,7 +1,13 @@
--- `tag_of` meets its contract: `sheet`, or one letter by its byte.
-use Rattle.sheet.proofs.Ways.{tag_long}
+-- `tag_of` meets its contract where no tag fits by its length, or by its first byte.
+use native.Mathlib.Omega.{arith}
+use Rattle.sheet.proofs.Ways.{no_tag, not_sheet}
 use Rattle.sheet.proofs.tag_of.Goals as goal
 
-pub returns-then-tag-ne1 : goal.returns-then-tag-ne1
-returns-then-tag-ne1 c =
-    tag_long c.args.tag.now _ c.is_sheet.ensures c.if-is_sheet.false c.if-tag-ne1.true
+pub returns-in_default-3 : goal.returns-in_default-3
+returns-in_default-3 c = no_tag c.args.tag.now (λ h. omega arith) (λ h. omega arith)
+
+pub returns-in_default-8 : goal.returns-in_default-8
+returns-in_default-8 c = not_sheet c.args.tag.now (omega arith) (λ h. omega arith)
+
+pub returns-in_default-9 : goal.returns-in_default-9
+returns-in_default-9 c = no_tag c.args.tag.now (λ h. omega arith) (λ h. omega arith)
