@@ -7,6 +7,7 @@ use Rattle.tables.specs.Sizes.{opcodes, kinds, modes}
 use Rattle.fields.specs.Number.{unsigned_of}
 use Rattle.fields.specs.Cut.{nth}
 use Rattle.lines.specs.Field.{Read, says, bad, number, one_of, integer64, only}
+use Rattle.lines.specs.declared.BadField.{BadField}
 use Rattle.lines.specs.Into.{Left, left}
 use Rattle.sheet.specs.declared.Kind.{Kind}
 use Rattle.sheet.specs.declared.Kind.TheVariants.{Sheet, Count, Mode, Contained, Bytes, Through}
@@ -135,9 +136,9 @@ abbrev pub key_of : Option Took → ℕ
 key_of None = 0
 key_of (Some w) = w.key
 
-abbrev pub told : Result Took ℕ → Read Row
+abbrev pub told : Result Took BadField → Read Row
 told (Ok w) = says (row_of w)
-told (Err k) = bad k
+told (Err e) = bad e.field
 
 -- an answer, and the slice with it
 abbrev pub line_into : Read Row → List ℕ → Left (Read Row)

@@ -7,7 +7,7 @@ ghost use Rattle.lines.specs.Into.{number_in, left};
 ghost use Rattle.sheet.specs.Line.{tag_of, place, kind_of, key_of, row_of, told, follows, rises, sheet_line, keyed_line, through_line, judged, stored, line_into};
 ghost use Rattle.sheet.specs.Sheet.{lines_of, fresh, ended, read_sheet, settled, last_answer};
 
-use lines::Width;
+use lines::{BadField, Width};
 use tables::{Answer, Refusal};
 
 // The greatest mask, and half of the numbers of 64 bits.
@@ -76,14 +76,14 @@ fn rises(last: Option<Row>, kind: Kind, key: u64) -> bool
 
 // What a line may say, or its bad field.
 #[tactic(auto, unfolding(crate::specs::Line::sheet_line))]
-fn sheet_line(line: &[u8], last: Option<Row>) -> Result<Row, u64>
+fn sheet_line(line: &[u8], last: Option<Row>) -> Result<Row, BadField>
     ensures { told result ≡ sheet_line (kind_of last) (split 9 line.now) }
 {
     if fields::count(line, 9) != 2 || last.is_some() {
-        return Err(0);
+        return Err(BadField { field: 0 });
     }
     let Some(1) = number_at(line, 1, Width::Signed(HALF_64)) else {
-        return Err(2);
+        return Err(BadField { field: 2 });
     };
     Ok(Row {
         kind: Kind::Sheet,
@@ -100,33 +100,33 @@ fn keyed_line(
     most: u64,
     width: Width,
     last: Option<Row>,
-) -> Result<Row, u64>
+) -> Result<Row, BadField>
     ensures { told result ≡ keyed_line (place kind) (number_in (Width.Unsigned most)) (number_in width) (kind_of last) (key_of last) (split 9 line.now) }
 {
     if fields::count(line, 9) != 3 || !follows(last, kind) {
-        return Err(0);
+        return Err(BadField { field: 0 });
     }
     let Some(key) = number_at(line, 1, Width::Unsigned(most)) else {
-        return Err(2);
+        return Err(BadField { field: 2 });
     };
     if !rises(last, kind, key) {
-        return Err(0);
+        return Err(BadField { field: 0 });
     }
     let Some(value) = number_at(line, 2, width) else {
-        return Err(3);
+        return Err(BadField { field: 3 });
     };
     Ok(Row { kind, key, value })
 }
 
 #[tactic(auto, unfolding(crate::specs::Line::through_line))]
-fn through_line(line: &[u8], last: Option<Row>) -> Result<Row, u64>
+fn through_line(line: &[u8], last: Option<Row>) -> Result<Row, BadField>
     ensures { told result ≡ through_line (kind_of last) (split 9 line.now) }
 {
     if fields::count(line, 9) != 2 || !follows(last, Kind::Bytes) {
-        return Err(0);
+        return Err(BadField { field: 0 });
     }
     let Some(value) = number_at(line, 1, Width::Unsigned(1)) else {
-        return Err(2);
+        return Err(BadField { field: 2 });
     };
     Ok(Row {
         kind: Kind::Through,
@@ -137,11 +137,11 @@ fn through_line(line: &[u8], last: Option<Row>) -> Result<Row, u64>
 
 // A line after the last one.
 #[tactic(auto, unfolding(crate::specs::Line::judged))]
-fn judge(line: &[u8], last: Option<Row>) -> Result<Row, u64>
+fn judge(line: &[u8], last: Option<Row>) -> Result<Row, BadField>
     ensures { told result ≡ judged (kind_of last) (key_of last) (split 9 line.now) }
 {
     let Some(kind) = tag_of(fields::part(line, 9, 0)) else {
-        return Err(1);
+        return Err(BadField { field: 1 });
     };
     match kind {
         Kind::Sheet => sheet_line(line, last),
@@ -171,7 +171,7 @@ fn store(row: Row, sheet: &mut [u64])
 }
 
 // A line judged, and stored where it is good.
-fn take_line(line: &[u8], last: Option<Row>, sheet: &mut [u64]) -> Result<Row, u64>
+fn take_line(line: &[u8], last: Option<Row>, sheet: &mut [u64]) -> Result<Row, BadField>
     ensures { left (told result) sheet.new ≡ line_into (judged (kind_of last) (key_of last) (split 9 line.now)) sheet.old }
 {
     let row = judge(line, last)?;
@@ -208,11 +208,14 @@ fn read_lines(text: &[u8], sheet: &mut [u64]) -> Answer
         if tables::MAX_TEXT <= e {
             return Err(Refusal::OutOfRange { table: 0, entry: 0 });
         }
-        let row = take_line(fields::between(text, p, e), last, sheet)
-            .map_err(|field| Refusal::NotInForm { line, field })?;
-        last = Some(row);
-        line += 1;
-        p = e + 1;
+        match take_line(fields::between(text, p, e), last, sheet) {
+            Ok(row) => {
+                last = Some(row);
+                line += 1;
+                p = e + 1;
+            }
+            Err(BadField { field }) => return Err(Refusal::NotInForm { line, field }),
+        }
     }
 }
 

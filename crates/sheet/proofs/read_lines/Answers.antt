@@ -19,8 +19,12 @@ returns-then-e-ge-MAX_TEXT c =
     at_far (kind_of l.last) (key_of l.last) l.line l.p _ l.sheet c.args.text.now (omega arith) c.find-e.ensures c.if-text-e.false (omega arith)
     ∙ ap ended l.invariant.3
 
-pub returns-in_err-row : goal.returns-in_err-row
-returns-in_err-row c = ?
+pub returns-in-Err : goal.returns-in-Err
+returns-in-Err c =
+    let l = c.loop-last in
+    at_bad (kind_of l.last) (key_of l.last) l.line l.p _ l.sheet c.args.text.now (omega arith) c.find-e.ensures c.if-text-e.false (omega arith) _ c.between.ensures
+    _ _ c.take_line.ensures _ (ap told c.in-Err.is)
+    ∙ ap ended l.invariant.3
 
 pub loop-last-smaller : goal.loop-last-smaller
 loop-last-smaller c =
@@ -30,4 +34,5 @@ pub loop-last-preserved : goal.loop-last-preserved
 loop-last-preserved c =
     let l = c.loop-last in
     let ge = end_ge 10 l.p _ c.args.text.now (omega arith) c.find-e.ensures in
-    (omega arith, omega arith, omega arith, ?)
+    let kept = at_row (kind_of l.last) (key_of l.last) l.line l.p _ l.sheet c.args.text.now (omega arith) c.find-e.ensures c.if-text-e.false (omega arith) _ c.between.ensures _ _ c.take_line.ensures (row_of c.in-Ok.row) (ap told c.in-Ok.is) in
+    (omega arith, omega arith, omega arith, kept ∙ l.invariant.3)
