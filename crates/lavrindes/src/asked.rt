@@ -246,8 +246,8 @@ pub fn read_back(text: &[u8], list: &[u8]) {
     let mut numbers = [0u64; 8192];
     let mut lengths = [0u64; 64];
     match number_text::read_numbers(list, &mut numbers, &mut lengths) {
-        Lists::Refused(why) => said::refusal(why),
-        Lists::Read { count, functions } => of_lists(
+        Err(why) => said::refusal(why),
+        Ok(Lists { count, functions }) => of_lists(
             &o,
             &b,
             &r,

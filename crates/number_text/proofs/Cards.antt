@@ -12,9 +12,10 @@ use Rattle.tables.specs.declared.Numbers.{Numbers}
 use Rattle.tables.specs.declared.Refusal.TheVariants.{NotInForm}
 use Rattle.lines.specs.Field.{says, list_of}
 use Rattle.number_text.specs.declared.Lists.{Lists}
-use Rattle.number_text.specs.declared.Lists.TheVariants.{Read, Refused}
+use Rattle.std.specs.Prelude.{Result, Ok, Err}
+use Rattle.tables.specs.declared.Refusal.{Refusal}
 use Rattle.number_text.specs.Line.{list_line}
-use Rattle.number_text.specs.Text.{state, Step, goes, refuses, outcome, listed, taken, line_of, last_of, lines_of, read_numbers}
+use Rattle.number_text.specs.Text.{state, Step, goes, refuses, outcome, lists, listed, taken, line_of, last_of, lines_of, read_numbers}
 
 -- whatever was lent
 numbers : List ℕ
@@ -23,9 +24,9 @@ numbers = replicate 8192 7
 lengths : List ℕ
 lengths = replicate 64 9
 
-numbers_in : Lists → Numbers
-numbers_in (Read count functions) = three 0 count functions
-numbers_in (Refused r) = numbers_of r
+numbers_in : Result Lists Refusal → Numbers
+numbers_in (Ok read) = three 0 read.count read.functions
+numbers_in (Err r) = numbers_of r
 
 -- 0, the count of numbers and of functions where a text is read; else its refusal
 answer : String → Numbers
@@ -41,12 +42,12 @@ all_functions = bytes "n\t0\t\nn\t1\t\nn\t2\t\nn\t3\t\nn\t4\t\nn\t5\t\nn\t6\t\nn
 
 -- case M's list, and what stands past it is kept
 case_m : read_numbers (bytes "n\t0\t0,1,2,2,0,2\n") numbers lengths
-    ≡ outcome (Read 6 1) ((0 ∷ 1 ∷ 2 ∷ 2 ∷ 0 ∷ 2 ∷ []) ++ replicate 8186 7) ((6 ∷ []) ++ replicate 63 9)
+    ≡ outcome (Ok (lists 6 1)) ((0 ∷ 1 ∷ 2 ∷ 2 ∷ 0 ∷ 2 ∷ []) ++ replicate 8186 7) ((6 ∷ []) ++ replicate 63 9)
 unfolding numbers lengths read_numbers split on_first nth lines_of line_of last_of taken list_line list_of written decimal_of is_decimal all_digits value_after unsigned_of
 case_m = refl
 
 -- a refusal leaves zeros, however far the list was read
-zeroed : read_numbers (bytes "n\t0\t1,2\nn\t1\t3,x\n") numbers lengths ≡ outcome (Refused (NotInForm 2 203)) (replicate 8192 0) (replicate 64 0)
+zeroed : read_numbers (bytes "n\t0\t1,2\nn\t1\t3,x\n") numbers lengths ≡ outcome (Err (NotInForm 2 203)) (replicate 8192 0) (replicate 64 0)
 unfolding numbers lengths read_numbers split on_first nth lines_of line_of last_of taken list_line list_of written decimal_of is_decimal all_digits value_after unsigned_of
 zeroed = refl
 

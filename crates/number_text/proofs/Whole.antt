@@ -19,10 +19,9 @@ use Rattle.tables.specs.declared.Refusal.{Refusal}
 use Rattle.tables.specs.declared.Refusal.TheVariants.{OutOfRange, TooShort, NotInForm}
 use Rattle.lines.specs.Field.{Read as Says, says, bad}
 use Rattle.number_text.specs.declared.Lists.{Lists}
-use Rattle.number_text.specs.declared.Lists.TheVariants.{Read, Refused}
+use Rattle.std.specs.Prelude.{Result, Ok, Err}
 use Rattle.number_text.specs.Line.{ok_stands, list_line, zeros}
-use Rattle.number_text.specs.Text.{State, state, Step, goes, refuses, onward, listed, taken, line_of, last_of, lines_of, Outcome, outcome, refused, over, ended, fresh, read_numbers, settled, counted_into, listed_into, taken_into, last_answer}
-use Rattle.number_text.proofs.Ways.{impossible}
+use Rattle.number_text.specs.Text.{State, state, Step, goes, refuses, onward, listed, taken, line_of, last_of, lines_of, Outcome, outcome, refused, lists, over, ended, fresh, read_numbers, settled, counted_into, listed_into, taken_into, last_answer}
 
 -- ---- numbers in front of what a lent list held
 
@@ -65,7 +64,7 @@ module _ (line p end functions count : ℕ) (ns ls : List ℕ) (hn : 8192 ≤ le
       (lt_or_ge 64 (suc functions))
     where
       fits : (xs : List ℕ) → count + length xs ≤ length ns → functions < length ls
-          → outcome (Read (count + length xs) (suc functions)) (sets ns count xs) (sets ls functions (length xs ∷ []))
+          → outcome (Ok (lists (count + length xs) (suc functions))) (sets ns count xs) (sets ls functions (length xs ∷ []))
           ≡ ended (goes (state (suc line) end (take count ns ++ xs) (take functions ls ++ (length xs ∷ [])))) ns ls
       fits xs h k =
           let a : count + length xs ≡ length (take count ns ++ xs) =
@@ -75,12 +74,12 @@ module _ (line p end functions count : ℕ) (ns ls : List ℕ) (hn : 8192 ≤ le
           let n : sets ns count xs ≡ over (take count ns ++ xs) ns = sets_over ns count xs h in
           let l : sets ls functions (length xs ∷ []) ≡ over (take functions ls ++ (length xs ∷ [])) ls =
           sets_over ls functions (length xs ∷ []) (omega arith) in
-          ap (λ (i : ℕ). outcome (Read i (suc functions)) (sets ns count xs) (sets ls functions (length xs ∷ []))) a
-          ∙ ap (λ (i : ℕ). outcome (Read (length (take count ns ++ xs)) i) (sets ns count xs) (sets ls functions (length xs ∷ []))) b
-          ∙ ap (λ (i : List ℕ). outcome (Read (length (take count ns ++ xs)) (length (take functions ls ++ (length xs ∷ [])))) i (sets ls functions (length xs ∷ []))) n
-          ∙ ap (λ (i : List ℕ). outcome (Read (length (take count ns ++ xs)) (length (take functions ls ++ (length xs ∷ [])))) (over (take count ns ++ xs) ns) i) l
+          ap (λ (i : ℕ). outcome (Ok (lists i (suc functions))) (sets ns count xs) (sets ls functions (length xs ∷ []))) a
+          ∙ ap (λ (i : ℕ). outcome (Ok (lists (length (take count ns ++ xs)) i)) (sets ns count xs) (sets ls functions (length xs ∷ []))) b
+          ∙ ap (λ (i : List ℕ). outcome (Ok (lists (length (take count ns ++ xs)) (length (take functions ls ++ (length xs ∷ []))))) i (sets ls functions (length xs ∷ []))) n
+          ∙ ap (λ (i : List ℕ). outcome (Ok (lists (length (take count ns ++ xs)) (length (take functions ls ++ (length xs ∷ []))))) (over (take count ns ++ xs) ns) i) l
 
-  kept_is : outcome (Read count functions) ns ls ≡ ended (goes (state (suc line) end (take count ns) (take functions ls))) ns ls
+  kept_is : outcome (Ok (lists count functions)) ns ls ≡ ended (goes (state (suc line) end (take count ns) (take functions ls))) ns ls
   kept_is =
       rw (few, many, take-append-drop count ns, take-append-drop functions ls)
 
@@ -96,7 +95,7 @@ module _ (line p end functions count : ℕ) (ns ls : List ℕ) (hn : 8192 ≤ le
     where
       by : (t u v : Bool) (y : Says (List ℕ))
           → cond t (listed_into line functions count y ns ls)
-          (cond u (cond v (outcome (Read count functions) ns ls) (refused (NotInForm line 200) ns ls)) (refused (NotInForm line 201) ns ls))
+          (cond u (cond v (outcome (Ok (lists count functions)) ns ls) (refused (NotInForm line 200) ns ls)) (refused (NotInForm line 201) ns ls))
           ≡ ended
           (cond t (listed here end y)
           (cond u (cond v (goes (state (suc line) end (take count ns) (take functions ls))) (refuses (NotInForm line 200))) (refuses (NotInForm line 201))))
@@ -117,7 +116,7 @@ same_state : (s t : State) → goes s ≡ goes t → s ≡ t
 same_state s t e = cc
 
 no_step : (r : Refusal) (s : State) {X : Type 0} → refuses r ≡ goes s → X
-no_step r s e = impossible (cc)
+no_step r s e = cc
 
 module _ (s : State) (end : ℕ) (hn : length s.numbers ≤ 8192) (hl : length s.lengths ≤ 64) (t : State) where
   moved : (line bytes : ℕ) (ns ls : List ℕ) → goes (state line bytes ns ls) ≡ goes t
@@ -168,40 +167,41 @@ state_is t line bytes ns ls a b n l =
 
 -- ---- a line that was taken, by what it left in the lent lists
 module _ (line p end functions count : ℕ) (ns ls : List ℕ) (hn : 8192 ≤ length ns) (hl : 64 ≤ length ls) (hc : count ≤ 8192) (hf : functions ≤ 64)
-    (fs : List (List ℕ)) (w : Lists) (ns' ls' : List ℕ) (e : settled w ns' ls' ≡ taken_into line functions count fs ns ls) where
+    (fs : List (List ℕ)) (w : Result Lists Refusal) (ns' ls' : List ℕ) (e : settled w ns' ls' ≡ taken_into line functions count fs ns ls) where
   abbrev before : State
   before = state line p (take count ns) (take functions ls)
 
   left_is : settled w ns' ls' ≡ ended (taken before end fs) ns ls
   left_is = e ∙ into_is line p end functions count ns ls hn hl hc hf fs
 
-  step_refused : (r : Refusal) → w ≡ Refused r → (taken before end fs ≡ refuses r) × (zeros ns' ≡ zeros ns) × (zeros ls' ≡ zeros ls)
-  step_refused r k = by (taken before end fs) (ap (λ (x : Lists). settled x ns' ls') (sym k) ∙ left_is)
+  step_refused : (r : Refusal) → w ≡ Err r → (taken before end fs ≡ refuses r) × (zeros ns' ≡ zeros ns) × (zeros ls' ≡ zeros ls)
+  step_refused r k = by (taken before end fs) (ap (λ (x : Result Lists Refusal). settled x ns' ls') (sym k) ∙ left_is)
     where
       by : (x : Step) → refused r ns' ls' ≡ ended x ns ls → (x ≡ refuses r) × (zeros ns' ≡ zeros ns) × (zeros ls' ≡ zeros ls)
       by (goes t) z =
-          let told : Refused r ≡ Read (length t.numbers) (length t.lengths) = ap (λ (o : Outcome). o.answer) z in
-          impossible (cc)
+          let told : Err r ≡ Ok (lists (length t.numbers) (length t.lengths)) = ap (λ (o : Outcome). o.answer) z in
+          cc
       by (refuses q) z =
-          let told : Refused r ≡ Refused q = ap (λ (o : Outcome). o.answer) z in
+          let told : Err r ≡ Err q = ap (λ (o : Outcome). o.answer) z in
           let same : q ≡ r = cc in
           (ap refuses same, ap (λ (o : Outcome). o.numbers) z, ap (λ (o : Outcome). o.lengths) z)
 
-  step_read : (c f : ℕ) → w ≡ Read c f
+  step_read : (c f : ℕ) → w ≡ Ok (lists c f)
       → (taken before end fs ≡ goes (state (suc line) end (take c ns') (take f ls'))) × (c ≤ 8192) × (f ≤ 64) × (count ≤ c) × (functions ≤ f)
       × (length (take c ns') ≡ c) × (length (take f ls') ≡ f) × (over (take c ns') ns ≡ ns') × (over (take f ls') ls ≡ ls')
-  step_read c f k = by (taken before end fs) refl (ap (λ (x : Lists). settled x ns' ls') (sym k) ∙ left_is)
+  step_read c f k = by (taken before end fs) refl (ap (λ (x : Result Lists Refusal). settled x ns' ls') (sym k) ∙ left_is)
     where
-      by : (x : Step) → taken before end fs ≡ x → outcome (Read c f) ns' ls' ≡ ended x ns ls
+      by : (x : Step) → taken before end fs ≡ x → outcome (Ok (lists c f)) ns' ls' ≡ ended x ns ls
           → (taken before end fs ≡ goes (state (suc line) end (take c ns') (take f ls'))) × (c ≤ 8192) × (f ≤ 64) × (count ≤ c) × (functions ≤ f)
           × (length (take c ns') ≡ c) × (length (take f ls') ≡ f) × (over (take c ns') ns ≡ ns') × (over (take f ls') ls ≡ ls')
       by (refuses q) g z =
-          let told : Read c f ≡ Refused q = ap (λ (o : Outcome). o.answer) z in
-          impossible (cc)
+          let told : Ok (lists c f) ≡ Err q = ap (λ (o : Outcome). o.answer) z in
+          cc
       by (goes t) g z =
-          let told : Read c f ≡ Read (length t.numbers) (length t.lengths) = ap (λ (o : Outcome). o.answer) z in
-          let a : c ≡ length t.numbers = cc in
-          let b : f ≡ length t.lengths = cc in
+          let told : Ok (lists c f) ≡ Ok (lists (length t.numbers) (length t.lengths)) = ap (λ (o : Outcome). o.answer) z in
+          let same : lists c f ≡ lists (length t.numbers) (length t.lengths) = cc in
+          let a : c ≡ length t.numbers = ap (λ (x : Lists). x.count) same in
+          let b : f ≡ length t.lengths = ap (λ (x : Lists). x.functions) same in
           let n : ns' ≡ over t.numbers ns = ap (λ (o : Outcome). o.numbers) z in
           let l : ls' ≡ over t.lengths ls = ap (λ (o : Outcome). o.lengths) z in
           let tn : take c ns' ≡ t.numbers =
@@ -221,21 +221,6 @@ module _ (line p end functions count : ℕ) (ns ls : List ℕ) (hn : 8192 ≤ le
             ap (λ (x : List ℕ). over x ns) tn ∙ sym n,
             ap (λ (x : List ℕ). over x ls) tl ∙ sym l,
           )
-
--- ---- what follows the last LF
-module _ (line start end functions count : ℕ) where
-  pub last_far : 262144 < end → Refused (OutOfRange 0 0) ≡ last_answer line start end functions count
-  unfolding last_answer
-  last_far h = rw (lt-ltb 262144 end h)
-
-  module _ (h : end ≤ 262144) where
-    pub last_some : start < end → Refused (NotInForm line 200) ≡ last_answer line start end functions count
-    unfolding last_answer
-    last_some k = rw (le-ltb 262144 end h, lt-ltb start end k)
-
-    pub last_none : end ≤ start → Read count functions ≡ last_answer line start end functions count
-    unfolding last_answer
-    last_none k = rw (le-ltb 262144 end h, le-ltb start end k)
 
 -- ---- one line after another
 lines_more : (s : State) (l t : List ℕ) (ls : List (List ℕ)) → ls ≡ l ∷ split 10 t → lines_of s ls ≡ onward (line_of s l) (λ x. lines_of x (split 10 t))
@@ -265,19 +250,19 @@ module _ (line p e functions count : ℕ) (ns ls ns₀ ls₀ text : List ℕ) (h
   none_left : (r : Refusal) → refused r ns ls ≡ refused r ns₀ ls₀
   none_left r = rw (en, el)
 
-  all_held : outcome (Read count functions) ns ls ≡ ended (goes stand) ns₀ ls₀
+  all_held : outcome (Ok (lists count functions)) ns ls ≡ ended (goes stand) ns₀ ls₀
   all_held =
-      ap (λ (i : ℕ). outcome (Read i functions) ns ls) (sym (length-take-le count ns (omega arith)))
-      ∙ ap (λ (i : ℕ). outcome (Read (length (take count ns)) i) ns ls) (sym (length-take-le functions ls (omega arith)))
-      ∙ ap (λ (i : List ℕ). outcome (Read (length (take count ns)) (length (take functions ls))) i ls) (sym on)
-      ∙ ap (λ (i : List ℕ). outcome (Read (length (take count ns)) (length (take functions ls))) (over (take count ns) ns₀) i) (sym ol)
+      ap (λ (i : ℕ). outcome (Ok (lists i functions)) ns ls) (sym (length-take-le count ns (omega arith)))
+      ∙ ap (λ (i : ℕ). outcome (Ok (lists (length (take count ns)) i)) ns ls) (sym (length-take-le functions ls (omega arith)))
+      ∙ ap (λ (i : List ℕ). outcome (Ok (lists (length (take count ns)) (length (take functions ls)))) i ls) (sym on)
+      ∙ ap (λ (i : List ℕ). outcome (Ok (lists (length (take count ns)) (length (take functions ls)))) (over (take count ns) ns₀) i) (sym ol)
 
   last_is : (l : List ℕ) → settled (last_answer line p (p + length l) functions count) ns ls ≡ ended (last_of stand l) ns₀ ls₀
   unfolding last_answer last_of
   last_is [] = by (ltb 262144 (p + 0)) (le-ltb p (p + 0) (omega arith))
     where
       by : (t : Bool) → ltb p (p + 0) ≡ false
-          → settled (cond t (Refused (OutOfRange 0 0)) (cond (ltb p (p + 0)) (Refused (NotInForm line 200)) (Read count functions))) ns ls
+          → settled (cond t (Err (OutOfRange 0 0)) (cond (ltb p (p + 0)) (Err (NotInForm line 200)) (Ok (lists count functions)))) ns ls
           ≡ ended (cond t (refuses (OutOfRange 0 0)) (goes stand)) ns₀ ls₀
       by true z = none_left (OutOfRange 0 0)
       by false z = rw z all_held
@@ -285,15 +270,15 @@ module _ (line p e functions count : ℕ) (ns ls ns₀ ls₀ text : List ℕ) (h
       by (ltb 262144 (p + length (b ∷ l))) (eqb (length (b ∷ l)) 0) (lt-ltb p (p + length (b ∷ l)) (omega arith)) (ne_eqb (length (b ∷ l)) 0 (λ h. omega arith))
     where
       by : (t u : Bool) → ltb p (p + length (b ∷ l)) ≡ true → u ≡ false
-          → settled (cond t (Refused (OutOfRange 0 0)) (cond (ltb p (p + length (b ∷ l))) (Refused (NotInForm line 200)) (Read count functions))) ns ls
+          → settled (cond t (Err (OutOfRange 0 0)) (cond (ltb p (p + length (b ∷ l))) (Err (NotInForm line 200)) (Ok (lists count functions)))) ns ls
           ≡ ended (cond t (refuses (OutOfRange 0 0)) (cond u (goes stand) (refuses (NotInForm line 200)))) ns₀ ls₀
       by true u z y = none_left (OutOfRange 0 0)
       by false u z y = rw (z, y) (none_left (NotInForm line 200))
 
-  pub at_end : length text ≤ e → (r : Lists) → r ≡ last_answer line p e functions count
+  pub at_end : length text ≤ e → (r : Result Lists Refusal) → r ≡ last_answer line p e functions count
       → settled r ns ls ≡ ended (lines_of stand (split 10 (drop p text))) ns₀ ls₀
   at_end k r er =
-      ap (λ (x : Lists). settled x ns ls) (er ∙ ap (λ (i : ℕ). last_answer line p i functions count) (sym this_long))
+      ap (λ (x : Result Lists Refusal). settled x ns ls) (er ∙ ap (λ (i : ℕ). last_answer line p i functions count) (sym this_long))
       ∙ last_is this
       ∙ sym (ap (λ (x : Step). ended x ns₀ ls₀) (lines_last stand this (split 10 (drop p text)) (at_last 10 p e text h at k)))
 
@@ -308,12 +293,12 @@ module _ (line p e functions count : ℕ) (ns ls ns₀ ls₀ text : List ℕ) (h
     unfolding line_of
     line_far n = rw (counted, lt-ltb 262144 (e + 1) (omega arith))
 
-    pub at_far : 262144 ≤ e → settled (Refused (OutOfRange 0 0)) ns ls ≡ ended (lines_of stand (split 10 (drop p text))) ns₀ ls₀
+    pub at_far : 262144 ≤ e → settled (Err (OutOfRange 0 0)) ns ls ≡ ended (lines_of stand (split 10 (drop p text))) ns₀ ls₀
     at_far n =
         none_left (OutOfRange 0 0)
         ∙ sym (ap (λ (x : Step). ended x ns₀ ls₀) (lines_are ∙ ap (λ (x : Step). onward x (λ y. lines_of y (split 10 (drop (e + 1) text)))) (line_far n)))
 
-    module _ (n : e < 262144) (m : List ℕ) (em : m ≡ this) (w : Lists) (ns' ls' : List ℕ)
+    module _ (n : e < 262144) (m : List ℕ) (em : m ≡ this) (w : Result Lists Refusal) (ns' ls' : List ℕ)
         (ew : settled w ns' ls' ≡ taken_into line functions count (split 9 m) ns ls) where
       told : settled w ns' ls' ≡ taken_into line functions count (split 9 this) ns ls
       told = ew ∙ ap (λ (x : List ℕ). taken_into line functions count (split 9 x) ns ls) em
@@ -326,13 +311,13 @@ module _ (line p e functions count : ℕ) (ns ls ns₀ ls₀ text : List ℕ) (h
           → lines_of stand (split 10 (drop p text)) ≡ onward x (λ y. lines_of y (split 10 (drop (e + 1) text)))
       next_is x q = lines_are ∙ ap (λ (x : Step). onward x (λ y. lines_of y (split 10 (drop (e + 1) text)))) (near ∙ q)
 
-      pub at_refused : (r : Refusal) → w ≡ Refused r → settled (Refused r) ns' ls' ≡ ended (lines_of stand (split 10 (drop p text))) ns₀ ls₀
+      pub at_refused : (r : Refusal) → w ≡ Err r → settled (Err r) ns' ls' ≡ ended (lines_of stand (split 10 (drop p text))) ns₀ ls₀
       at_refused r q =
           let z = step_refused line p (e + 1) functions count ns ls hn hl hc hf (split 9 this) w ns' ls' told r q in
-          ap (λ (x : List ℕ). outcome (Refused r) x (zeros ls')) z.1 ∙ ap (λ (x : List ℕ). outcome (Refused r) (zeros ns) x) z.2
+          ap (λ (x : List ℕ). outcome (Err r) x (zeros ls')) z.1 ∙ ap (λ (x : List ℕ). outcome (Err r) (zeros ns) x) z.2
           ∙ none_left r ∙ sym (ap (λ (x : Step). ended x ns₀ ls₀) (next_is (refuses r) z.0))
 
-      pub at_read : (c f : ℕ) → w ≡ Read c f
+      pub at_read : (c f : ℕ) → w ≡ Ok (lists c f)
           → (lines_of (state (line + 1) (e + 1) (take c ns') (take f ls')) (split 10 (drop (e + 1) text)) ≡ lines_of stand (split 10 (drop p text)))
           × (c ≤ 8192) × (f ≤ 64) × (over (take c ns') ns₀ ≡ ns') × (over (take f ls') ls₀ ≡ ls')
       at_read c f q =
@@ -346,27 +331,3 @@ module _ (line p e functions count : ℕ) (ns ls ns₀ ls₀ text : List ℕ) (h
             sym (over_over (take count ns) (take c ns') ns₀ (omega (arith, z.3, z.5))) ∙ ap (over (take c ns')) on ∙ z.7,
             sym (over_over (take functions ls) (take f ls') ls₀ (omega (arith, z.4, z.6))) ∙ ap (over (take f ls')) ol ∙ z.8,
           )
-
--- ---- short lists, or the lines
-module _ (text ns ls : List ℕ) where
-  pub read_short : length ns < 8192 → settled (Refused (TooShort 8192)) ns ls ≡ read_numbers text ns ls
-  unfolding read_numbers
-  read_short h = rw (lt-ltb (length ns) 8192 h)
-
-  module _ (h : 8192 ≤ length ns) where
-    pub read_few : length ls < 64 → settled (Refused (TooShort 64)) ns ls ≡ read_numbers text ns ls
-    unfolding read_numbers
-    read_few k = rw (le-ltb (length ns) 8192 h, lt-ltb (length ls) 64 k)
-
-    pub read_all : 64 ≤ length ls → ended (lines_of fresh (split 10 text)) ns ls ≡ read_numbers text ns ls
-    unfolding read_numbers
-    read_all k = rw (le-ltb (length ns) 8192 h, le-ltb (length ls) 64 k)
-
--- ---- the lists after a refusal
-module _ (a : Lists) (ns ls : List ℕ) where
-  pub settle_kept : (count functions : ℕ) → a ≡ Read count functions → outcome (Read count functions) ns ls ≡ settled a ns ls
-  settle_kept count functions e = rw e
-
-  pub settle_refused : (r : Refusal) (ns' ls' : List ℕ) → a ≡ Refused r → ns' ≡ zeros ns → ls' ≡ zeros ls
-      → outcome (Refused r) ns' ls' ≡ settled a ns ls
-  settle_refused r ns' ls' e n l = rw (e, n, l)

@@ -1,12 +1,12 @@
 -- One line of a text of numbers, as the bench prints it: "Output is `ok`, then `n|0|0,1,2,2,0,2`, one `n` line per function by its position,
 -- its last field empty for an empty list." The fields of a refusal have 200 added, so that no other text's 15 is like it.
-use Rattle.std.specs.Prelude.{ℕ, ◌+◌, Bool, true, false, ◌&&◌, List, eqb, length, replicate}
+use Rattle.std.specs.Prelude.{ℕ, ◌+◌, Bool, true, false, ◌&&◌, List, eqb, length, replicate, Result, Ok, Err}
 use Rattle.std.proofs.lemmas.List.Edits.{sets}
 use Rattle.fields.specs.Cut.{nth}
 use Rattle.lines.specs.Field.{Read, says, bad, number, list, unsigned64, list_of}
+use Rattle.lines.specs.declared.BadField.{BadField}
+use Rattle.lines.specs.Answer.{bad_field}
 use Rattle.lines.specs.Into.{Left, left}
-use Rattle.number_text.specs.declared.Line.{Line}
-use Rattle.number_text.specs.declared.Line.TheVariants.{Numbers, Bad}
 
 abbrev pub field : ℕ → ℕ
 field k = 200 + k
@@ -33,10 +33,10 @@ list_line functions fs =
 abbrev pub zeros : List ℕ → List ℕ
 zeros xs = replicate (length xs) 0
 
-abbrev pub kept : Line → List ℕ → Left Line
-kept (Numbers n) l = left (Numbers n) l
-kept (Bad k) l = left (Bad k) (zeros l)
+abbrev pub kept : Result ℕ BadField → List ℕ → Left (Result ℕ BadField)
+kept (Ok n) l = left (Ok n) l
+kept (Err e) l = left (Err e) (zeros l)
 
-abbrev pub list_into : ℕ → Read (List ℕ) → List ℕ → Left Line
-list_into at (says xs) l = left (Numbers (length xs)) (sets l at xs)
-list_into at (bad k) l = left (Bad k) (zeros l)
+abbrev pub list_into : ℕ → Read (List ℕ) → List ℕ → Left (Result ℕ BadField)
+list_into at (says xs) l = left (Ok (length xs)) (sets l at xs)
+list_into at (bad k) l = left (Err (bad_field k)) (zeros l)

@@ -1,7 +1,7 @@
 -- A text of numbers, line by line: an optional first line `ok`, then one `n` line a function. "The first bad line answers, by its leftmost
 -- bad field." A line reaching past the most bytes is 1 with 0, 0 before its other faults; one without faults that passes 64 functions or
 -- 8,192 numbers is 1 with 0, 0 too. A text without an `n` line, an empty one as well, has no functions.
-use Rattle.std.specs.Prelude.{ℕ, suc, ◌+◌, Bool, ◌||◌, cond, List, [], ◌∷◌, ◌++◌, eqb, ltb, length, set, drop}
+use Rattle.std.specs.Prelude.{ℕ, suc, ◌+◌, Bool, ◌||◌, cond, List, [], ◌∷◌, ◌++◌, eqb, ltb, length, set, drop, Result, Ok, Err}
 use Rattle.std.proofs.lemmas.List.Edits.{sets}
 use Rattle.names.specs.Names.{bytes, equal}
 use Rattle.fields.specs.Cut.{split, nth}
@@ -11,7 +11,6 @@ use Rattle.tables.specs.declared.Refusal.TheVariants.{OutOfRange, TooShort, NotI
 use Rattle.lines.specs.Field.{Read as Says, says, bad}
 use Rattle.lines.specs.Into.{Left, left}
 use Rattle.number_text.specs.declared.Lists.{Lists}
-use Rattle.number_text.specs.declared.Lists.TheVariants.{Read, Refused}
 use Rattle.number_text.specs.Line.{field, ok_stands, list_line, zeros}
 
 abbrev pub max_bytes : ℕ
@@ -72,25 +71,28 @@ lines_of s (l ∷ m ∷ ls) = onward (line_of s l) (λ t. lines_of t (m ∷ ls))
 
 -- ---- the whole text
 
+abbrev pub lists : ℕ → ℕ → Lists
+lists count functions = record { count = count; functions = functions }
+
 -- the answer, and what the lists of numbers and of lengths hold at exit
 pub record Outcome : Type 0 where
-  pub answer : Lists
+  pub answer : Result Lists Refusal
   pub numbers : List ℕ
   pub lengths : List ℕ
 
-abbrev pub outcome : Lists → List ℕ → List ℕ → Outcome
+abbrev pub outcome : Result Lists Refusal → List ℕ → List ℕ → Outcome
 outcome a numbers lengths = record { answer = a; numbers = numbers; lengths = lengths }
 
 -- "A refused text reading leaves the lent tables all zero"
 abbrev pub refused : Refusal → List ℕ → List ℕ → Outcome
-refused r numbers lengths = outcome (Refused r) (zeros numbers) (zeros lengths)
+refused r numbers lengths = outcome (Err r) (zeros numbers) (zeros lengths)
 
 -- "lent entries past it keep what they held"
 abbrev pub over : List ℕ → List ℕ → List ℕ
 over xs lent = xs ++ drop (length xs) lent
 
 abbrev pub ended : Step → List ℕ → List ℕ → Outcome
-ended (goes s) numbers lengths = outcome (Read (length s.numbers) (length s.lengths)) (over s.numbers numbers) (over s.lengths lengths)
+ended (goes s) numbers lengths = outcome (Ok (lists (length s.numbers) (length s.lengths))) (over s.numbers numbers) (over s.lengths lengths)
 ended (refuses r) numbers lengths = refused r numbers lengths
 
 abbrev pub fresh : State
@@ -105,15 +107,15 @@ read_numbers text numbers lengths =
 
 -- ---- in steps, over the lent lists: the zeros come after a refusal
 
-abbrev pub settled : Lists → List ℕ → List ℕ → Outcome
-settled (Read count functions) numbers lengths = outcome (Read count functions) numbers lengths
-settled (Refused r) numbers lengths = refused r numbers lengths
+abbrev pub settled : Result Lists Refusal → List ℕ → List ℕ → Outcome
+settled (Ok read) numbers lengths = outcome (Ok read) numbers lengths
+settled (Err r) numbers lengths = refused r numbers lengths
 
 -- the next function's length, after so many functions and numbers
-unfoldable pub counted_into : ℕ → ℕ → ℕ → List ℕ → Left Lists
+unfoldable pub counted_into : ℕ → ℕ → ℕ → List ℕ → Left (Result Lists Refusal)
 counted_into functions count n lengths =
-    cond (too_many (suc functions) (count + n)) (left (Refused (OutOfRange 0 0)) lengths)
-    (left (Read (count + n) (suc functions)) (set lengths functions n))
+    cond (too_many (suc functions) (count + n)) (left (Err (OutOfRange 0 0)) lengths)
+    (left (Ok (lists (count + n) (suc functions))) (set lengths functions n))
 
 abbrev pub listed_into : ℕ → ℕ → ℕ → Says (List ℕ) → List ℕ → List ℕ → Outcome
 listed_into line functions count (bad k) numbers lengths = refused (NotInForm line k) numbers lengths
@@ -125,11 +127,11 @@ unfoldable pub taken_into : ℕ → ℕ → ℕ → List (List ℕ) → List ℕ
 taken_into line functions count fs numbers lengths =
     cond (equal (nth 0 fs) (bytes "n")) (listed_into line functions count (list_line functions fs) numbers lengths)
     (cond (equal (nth 0 fs) (bytes "ok"))
-    (cond (ok_stands line fs) (outcome (Read count functions) numbers lengths) (refused (NotInForm line (field 0)) numbers lengths))
+    (cond (ok_stands line fs) (outcome (Ok (lists count functions)) numbers lengths) (refused (NotInForm line (field 0)) numbers lengths))
     (refused (NotInForm line (field 1)) numbers lengths))
 
 -- what follows the last LF, by the bytes before it and those of the text
-unfoldable pub last_answer : ℕ → ℕ → ℕ → ℕ → ℕ → Lists
+unfoldable pub last_answer : ℕ → ℕ → ℕ → ℕ → ℕ → Result Lists Refusal
 last_answer line start end functions count =
-    cond (ltb max_bytes end) (Refused (OutOfRange 0 0))
-    (cond (ltb start end) (Refused (NotInForm line (field 0))) (Read count functions))
+    cond (ltb max_bytes end) (Err (OutOfRange 0 0))
+    (cond (ltb start end) (Err (NotInForm line (field 0))) (Ok (lists count functions)))
