@@ -29,15 +29,18 @@ abbrev pub answered : {A B : Type 0} → (A → B) → Read A → Result B BadFi
 answered f (bad k) = Err (bad_field k)
 answered f (says w) = Ok (f w)
 
+abbrev pub header_line_of : HeaderRow → HeaderLine
+header_line_of w = record { version = w.version; sm = w.sm }
+
 abbrev pub header_of : Read HeaderRow → Result HeaderLine BadField
-header_of = answered (λ w. record { version = w.version; sm = w.sm })
+header_of = answered header_line_of
 
 -- the first eight dims, the places after them 0
 abbrev pub eight : List ℕ → List ℕ
 eight dims = take 8 (dims ++ replicate 8 0)
 
-abbrev pub type_row_of : TypeRow → TypeLine
-type_row_of w =
+abbrev pub type_line_of : TypeRow → TypeLine
+type_line_of w =
     record {
       form = w.form;
       kind = w.kind;
@@ -49,7 +52,7 @@ type_row_of w =
     }
 
 abbrev pub type_of : Read TypeRow → Result TypeLine BadField
-type_of = answered type_row_of
+type_of = answered type_line_of
 
 -- "dims of forms 4 to 6" have 32 bits
 abbrev pub dim_width : ℕ → Width
@@ -59,8 +62,11 @@ dim_width form = cond (ltb form 4) (Signed 0x8000_0000_0000_0000) (Signed 0x8000
 abbrev pub claim_of : ValueRow → Option Claim
 claim_of w = cond (eqb w.claims 0) None (Some (record { operation = w.operation; index = w.index }))
 
+abbrev pub value_line_of : ValueRow → ValueLine
+value_line_of w = record { type_id = w.type; claim = claim_of w }
+
 abbrev pub value_of : Read ValueRow → Result ValueLine BadField
-value_of = answered (λ w. record { type_id = w.type; claim = claim_of w })
+value_of = answered value_line_of
 
 abbrev pub function_of : Read ℕ → Result ℕ BadField
 function_of = answered (λ operation. operation)
@@ -76,9 +82,11 @@ abbrev pub good_lists : (List ℕ → Option ℕ) → List (List ℕ) → List �
 good_lists f [] = []
 good_lists f (p ∷ ps) = good_of f p ++ if_read (list_of f p) (good_lists f ps)
 
+abbrev pub operation_line_of : OperationRow → OperationLine
+operation_line_of w = record { opcode = w.opcode; results = length w.results; operands = length w.operands; regions = length w.regions }
+
 abbrev pub operation_of : Read OperationRow → Result OperationLine BadField
-operation_of =
-    answered (λ w. record { opcode = w.opcode; results = length w.results; operands = length w.operands; regions = length w.regions })
+operation_of = answered operation_line_of
 
 -- nothing is written after a bad opcode
 abbrev pub if_number : Option ℕ → List ℕ → List ℕ
@@ -91,8 +99,11 @@ operation_numbers fs = if_number (one_of 105 (nth 1 fs)) (good_lists id32 (nth 2
 unfoldable pub operation_into : ℕ → List (List ℕ) → List ℕ → Left (Result OperationLine BadField)
 operation_into at fs l = left (operation_of (operation_line fs)) (sets l at (operation_numbers fs))
 
+abbrev pub block_line_of : BlockRow → BlockLine
+block_line_of w = record { arguments = length w.arguments; operations = length w.operations }
+
 abbrev pub block_of : Read BlockRow → Result BlockLine BadField
-block_of = answered (λ w. record { arguments = length w.arguments; operations = length w.operations })
+block_of = answered block_line_of
 
 unfoldable pub block_numbers : List (List ℕ) → List ℕ
 block_numbers fs = good_lists id32 (nth 1 fs ∷ nth 2 fs ∷ [])
@@ -149,8 +160,11 @@ numbers_written form s =
 unfoldable pub numbers_into : ℕ → ℕ → List ℕ → List ℕ → Left (Option Filled)
 numbers_into form at s l = left (filled_of (numbers_of form s)) (sets l at (numbers_written form s))
 
+abbrev pub attribute_line_of : AttributeRow → AttributeLine
+attribute_line_of w = record { name = w.name; form = w.form; count = length w.numbers; missing = w.missing }
+
 abbrev pub attribute_of : Read AttributeRow → Result AttributeLine BadField
-attribute_of = answered (λ w. record { name = w.name; form = w.form; count = length w.numbers; missing = w.missing })
+attribute_of = answered attribute_line_of
 
 -- nothing is written after an empty name or an unknown form
 abbrev pub if_named : List ℕ → List ℕ → List ℕ

@@ -1,19 +1,21 @@
 -- `store_operation` meets its contract: each way through it is the definition's.
+use Rattle.stores.proofs.Stores.{not_stored}
 use Rattle.stores.proofs.Listed.{operation_bad, operation_full, operation_crowded, operation_taken}
 use Rattle.stores.proofs.store_operation.Goals as goal
 
+pub returns-in_err-w : goal.returns-in_err-w
+returns-in_err-w c =
+    operation_bad _ _ _ _ _ _ _ _ c.operation_line.ensures _ c.in_err-w.was _ (not_stored c.from_residual.ensures.1)
+
 pub returns-then-n-ge-MAX_OPERATIONS : goal.returns-then-n-ge-MAX_OPERATIONS
 returns-then-n-ge-MAX_OPERATIONS c =
-    operation_full _ _ _ _ _ _ _ _ c.operation_line-w.ensures _ _ _ _ c.in-Row.is c.if-n-ge-MAX_OPERATIONS.true
+    operation_full _ _ _ _ _ _ _ _ c.operation_line.ensures _ c.in_ok-w.was c.if-n-ge-MAX_OPERATIONS.true
 
-pub returns-then-has_room : goal.returns-then-has_room
-returns-then-has_room c =
-    operation_taken _ _ _ _ _ _ _ _ c.operation_line-w.ensures _ _ _ _ c.in-Row.is _ c.has_room.ensures c.if-has_room.true c.if-n-ge-MAX_OPERATIONS.false _ _ _ _ _ _ _ _ c.narrow.ensures c.narrow-then-has_room.ensures c.narrow-then-has_room-2.ensures c.narrow-then-has_room-3.ensures c.narrow-then-has_room-4.ensures c.narrow-then-has_room-5.ensures c.narrow-then-has_room-6.ensures c.narrow-then-has_room-7.ensures _ _ c.store_u32.ensures c.store_u32-then-has_room.ensures
+pub returns-then-not-has_room : goal.returns-then-not-has_room
+returns-then-not-has_room c =
+    operation_crowded _ _ _ _ _ _ _ _ c.operation_line.ensures _ c.in_ok-w.was _ c.has_room.ensures c.if-not-has_room.true
 
-pub returns-in-Bad : goal.returns-in-Bad
-returns-in-Bad c =
-    operation_bad _ _ _ _ _ _ _ _ c.operation_line-w.ensures _ c.in-Bad.is
-
-pub returns-else-has_room : goal.returns-else-has_room
-returns-else-has_room c =
-    operation_crowded _ _ _ _ _ _ _ _ c.operation_line-w.ensures _ _ _ _ c.in-Row.is _ c.has_room.ensures c.if-has_room.false
+pub returns : goal.returns
+returns c =
+    operation_taken _ _ _ _ _ _ _ _ c.operation_line.ensures _ c.in_ok-w.was _ c.has_room.ensures c.if-not-has_room.false c.if-n-ge-MAX_OPERATIONS.false
+    _ _ _ _ _ _ _ _ c.narrow.ensures c.narrow-2.ensures c.narrow-3.ensures c.narrow-4.ensures c.narrow-5.ensures c.narrow-6.ensures c.narrow-7.ensures c.narrow-8.ensures _ _ c.put_row.ensures c.put_row-2.ensures
