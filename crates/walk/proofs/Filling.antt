@@ -4,16 +4,16 @@ use Prim.Native.Nat.{ℕ, suc, ◌+◌, ◌<◌, ◌≤◌, min}
 use native.Mathlib.Omega.{arith}
 use mathlib.Core.Path.{◌≡◌, refl, ap, sym, ◌∙◌}
 use mathlib.Core.List.{List, [], ◌∷◌, ◌++◌, append_assoc}
-use lib.ListN.{length, set, replicate, length-append}
+use mathlib.Core.Bool.{false, true≢false}
+use lib.ListN.{length, set, length-append}
 use lib.Seq.{take-nil, drop-nil, set_at}
 use borrow.Author.Tests.{lt-ltb, le-ltb}
 use Rattle.cells.specs.Cell.{copied}
 use Rattle.tables.specs.Answer.{Answer}
-use Rattle.std.specs.Prelude.{Ok, Err}
-use Rattle.tables.specs.declared.Refusal.TheVariants.{TooDeep}
-use Rattle.walk.specs.Written.{Filled, filled, written, push, push_all, Visited, walked}
-use Rattle.walk.specs.declared.Walked.{Walked}
-use Rattle.walk.specs.declared.Walked.TheVariants.{Fine, Deep}
+use Rattle.std.specs.Prelude.{Result, Ok, Err}
+use Rattle.std.specs.Result.{is_err}
+use Rattle.tables.specs.declared.Refusal.{Refusal}
+use Rattle.walk.specs.Written.{Filled, filled, written, push, push_all, Visited, wrote, walked}
 
 module _ (out : List ℕ) (used x : ℕ) where
   pub push_in : used < length out → filled (set out used x) (used + 1) ≡ push (filled out used) x
@@ -49,21 +49,10 @@ all_written out xs =
     let z : 0 + min (length xs) (length out) ≡ min (length xs) (length out) = omega arith in
     from_place [] xs out 0 refl ∙ ap (filled (copied xs out)) z
 
--- the answer of a walk that nothing stops, and of one that is refused
--- a visit of all functions that is fine
-pub walked_whole : (w : Walked) (a : Answer) (m : ℕ) (out out' xs : List ℕ) → w ≡ Fine m → Visited w out' (filled out 0) a xs
-    → ((Ok tt) ≡ a) × (filled out' m ≡ walked a out xs)
-walked_whole (Fine k) a m out out' xs e v =
+-- the answer of a walk that nothing stops
+pub walked_whole : (w : Result ℕ Refusal) (a : Answer) (out out' xs : List ℕ) → is_err w ≡ false → Visited w out' (filled out 0) a xs
+    → filled out' (wrote w) ≡ walked a out xs
+walked_whole (Ok m) a out out' xs e v =
     let h : a ≡ (Ok tt) = sym v.answer in
-    let k-is : k ≡ m = cc in
-    (sym h, rw (h, ← k-is) (v.reached ∙ all_written out xs))
-walked_whole (Deep i) a m out out' xs e v = absurd (let z : ◌≡◌ {A = ℕ} 0 1 = cc in omega arith)
-
--- and one that is not, whose list is cleared
-pub walked_refused : (w : Walked) (a : Answer) (i : ℕ) (out out' cleared xs : List ℕ) → w ≡ Deep i → Visited w out' (filled out 0) a xs
-    → cleared ≡ replicate (length out') 0 → length out' ≡ length out → (Err (TooDeep i) ≡ a) × (filled cleared 0 ≡ walked a out xs)
-walked_refused (Fine k) a i out out' cleared xs e v c l = absurd (let z : ◌≡◌ {A = ℕ} 0 1 = cc in omega arith)
-walked_refused (Deep k) a i out out' cleared xs e v c l =
-    let k-is : k ≡ i = cc in
-    let h : Err (TooDeep i) ≡ a = ap (λ (j : ℕ). Err (TooDeep j)) (sym k-is) ∙ v.answer in
-    (h, rw (← h, c, l))
+    rw h (v.reached ∙ all_written out xs)
+walked_whole (Err r) a out out' xs e v = absurd (true≢false e)

@@ -11,14 +11,13 @@ use Rattle.tables.specs.Tables.{Tables, regions, regions_span, blocks, operation
 use Rattle.tables.specs.Layout.{regions_in, functions_in}
 use Rattle.tables.specs.Answer.{each, Answer}
 use Rattle.tables.specs.declared.Counts.{Counts}
-use Rattle.std.specs.Prelude.{Ok, Err}
+use Rattle.std.specs.Prelude.{Result, Ok, Err}
+use Rattle.tables.specs.declared.Refusal.{Refusal}
 use Rattle.tables.specs.declared.Refusal.TheVariants.{TooDeep}
 use Rattle.walk.specs.Order.{operation_order, block_order, region_order}
 use Rattle.walk.specs.Depth.{opens, operation_depth, block_depth, region_depth}
 use Rattle.walk.specs.Written.{Filled, filled, push, push_all, Reached, Visited, told}
 use Rattle.walk.proofs.Filling.{push_all_append}
-use Rattle.walk.specs.declared.Walked.{Walked}
-use Rattle.walk.specs.declared.Walked.TheVariants.{Fine, Deep}
 
 -- what a loop over the ids xs keeps: f judges each, g is what each writes, and i are done
 pub record Going (f : ℕ → Answer) (g : ℕ → List ℕ) (xs out₀ : List ℕ) (used : ℕ) (out : List ℕ) (next i : ℕ) : Type 0 where
@@ -29,24 +28,25 @@ pub going_start : (f : ℕ → Answer) (g : ℕ → List ℕ) (xs out : List ℕ
 going_start f g xs out used = record { said = refl; wrote = refl }
 
 module _ {f : ℕ → Answer} {g : ℕ → List ℕ} {xs out₀ : List ℕ} {used : ℕ} {out : List ℕ} {next i : ℕ} (inv : Going f g xs out₀ used out next i) where
-  pub going_end : length xs ≤ i → Visited (Fine next) out (filled out₀ used) (each f xs) (flat g xs)
+  pub going_end : length xs ≤ i → Visited (Ok next) out (filled out₀ used) (each f xs) (flat g xs)
   going_end h = record {
     answer = rw (left_end xs i 0 h) at inv.said;
     reached = rw (left_end xs i 0 h) at inv.wrote;
   }
 
   -- a turn: the visit of the id at i
-  module _ {w : Walked} {out' : List ℕ} (h : i < length xs) (v : Visited w out' (filled out next) (f (get_or xs i 0)) (g (get_or xs i 0))) where
-    pub going_deep : {k : ℕ} {out'' : List ℕ} → w ≡ Deep k → Visited (Deep k) out'' (filled out₀ used) (each f xs) (flat g xs)
-    going_deep {k} e =
-        let q : f (get_or xs i 0) ≡ Err (TooDeep k) = sym v.answer ∙ ap told e in
-        record { answer = rw (left_step xs i 0 h, q) at inv.said; reached = tt }
+  module _ {w : Result ℕ Refusal} {out' : List ℕ} (h : i < length xs) (v : Visited w out' (filled out next) (f (get_or xs i 0)) (g (get_or xs i 0))) where
+    pub going_deep : {r : Refusal} {w' : Result ℕ Refusal} {out'' : List ℕ} → w ≡ Err r → w' ≡ Err r
+        → Visited w' out'' (filled out₀ used) (each f xs) (flat g xs)
+    going_deep {r} e e' =
+        let q : f (get_or xs i 0) ≡ Err r = sym v.answer ∙ ap told e in
+        rw e' (record { answer = rw (left_step xs i 0 h, q) at inv.said; reached = tt })
 
-    pub going_more : {m : ℕ} → w ≡ Fine m → Going f g xs out₀ used out' m (i + 1)
+    pub going_more : {m : ℕ} → w ≡ Ok m → Going f g xs out₀ used out' m (i + 1)
     going_more {m} e =
         let q : f (get_or xs i 0) ≡ (Ok tt) = sym v.answer ∙ ap told e in
         let u : filled out' m ≡ push_all (filled out next) (g (get_or xs i 0)) =
-        subst (λ (z : Walked). Reached z out' (push_all (filled out next) (g (get_or xs i 0)))) e v.reached in
+        subst (λ (z : Result ℕ Refusal). Reached z out' (push_all (filled out next) (g (get_or xs i 0)))) e v.reached in
         record {
           said = rw (left_step xs i 0 h, q) at inv.said;
           wrote =
@@ -61,7 +61,7 @@ pub going_at : {f : ℕ → Answer} {g : ℕ → List ℕ} {xs out₀ out out' :
 going_at a b v = rw (a, b) v
 
 -- the list xs that was read is the one that the definition speaks of
-module _ (x : Tables) (d id : ℕ) {xs : List ℕ} {w : Walked} {out : List ℕ} {p : Filled} where
+module _ (x : Tables) (d id : ℕ) {xs : List ℕ} {w : Result ℕ Refusal} {out : List ℕ} {p : Filled} where
   pub block_visited : xs ≡ operations x id
       → Visited w out p (each (operation_depth (region_depth d x) x) xs) (flat (operation_order (region_order d x) x) xs)
       → Visited w out p (block_depth (region_depth d x) x id) (block_order (region_order d x) x id)
@@ -84,7 +84,7 @@ module _ (x : Tables) (d id : ℕ) {xs : List ℕ} {w : Walked} {out : List ℕ}
 
 -- an operation whose span of regions is empty: its id is all that is written
 pub leaf_visited : (x : Tables) (d id : ℕ) {s : Span} {out : List ℕ} {m : ℕ} {p : Filled} → filled out m ≡ push p id → s ≡ regions_span x id → s.len ≡ 0
-    → Visited (Fine m) out p (operation_depth (region_depth d x) x id) (operation_order (region_order d x) x id)
+    → Visited (Ok m) out p (operation_depth (region_depth d x) x id) (operation_order (region_order d x) x id)
 unfolding regions_in
 leaf_visited x d id h e z =
     let r : [] ≡ regions x id = rw (← e, z) in
@@ -92,7 +92,7 @@ leaf_visited x d id h e z =
 
 -- no depth is left: a region without blocks passes, and any other is refused
 module _ (x : Tables) (d owner id : ℕ) {xs : List ℕ} (z : d ≡ 0) (e : xs ≡ blocks x id) where
-  pub region_passed : (out : List ℕ) (used : ℕ) → length xs ≡ 0 → Visited (Fine used) out (filled out used) (region_depth d x owner id) (region_order d x id)
+  pub region_passed : (out : List ℕ) (used : ℕ) → length xs ≡ 0 → Visited (Ok used) out (filled out used) (region_depth d x owner id) (region_order d x id)
   unfolding region_depth region_order
   region_passed out used h =
       let q : blocks x id ≡ [] = sym e ∙ left_end xs 0 0 (omega arith) in
@@ -102,7 +102,7 @@ module _ (x : Tables) (d owner id : ℕ) {xs : List ℕ} (z : d ≡ 0) (e : xs �
   opens_some [] h = absurd (h refl)
   opens_some (j ∷ js) h = refl
 
-  pub region_refused : {out : List ℕ} {p : Filled} → (length xs ≡ 0 → ⊥) → Visited (Deep owner) out p (region_depth d x owner id) (region_order d x id)
+  pub region_refused : {out : List ℕ} {p : Filled} → (length xs ≡ 0 → ⊥) → Visited (Err (TooDeep owner)) out p (region_depth d x owner id) (region_order d x id)
   unfolding region_depth
   region_refused h = record { answer = rw z (opens_some (blocks x id) (λ q. h (ap length e ∙ q))); reached = tt }
 
