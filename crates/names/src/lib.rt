@@ -50,7 +50,7 @@ pub const ENDPOINTS: u64 = 7;
 pub const OTHER: u64 = 8;
 
 // The names, in the order of their numbers.
-const NAMES: [&[u8]; 13] = [
+static NAMES: [&[u8]; 13] = [
     b"rounding_mode",
     b"saturating",
     b"inbounds",

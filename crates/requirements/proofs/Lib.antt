@@ -1,4 +1,3 @@
 pub mod Tables
 pub mod Bools
-pub mod Asking
 pub mod Laws

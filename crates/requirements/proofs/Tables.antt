@@ -1,77 +1,50 @@
--- The constant tables: a requirement from its three columns, a position in a table, and the search through the targets.
-use mathlib.Core.Path.{◌≡◌, refl, sym, ap, subst}
-use mathlib.Core.Bool.{Bool, true, false, ◌&&◌}
+-- The tables, as `get` and `find` answer of them.
+use mathlib.Core.Path.{◌≡◌, refl, sym, ap, ◌∙◌}
+use mathlib.Core.Bool.{Bool, true, false, cond}
 use mathlib.Core.List.{List, [], ◌∷◌, map}
-use Prim.Native.Nat.{ℕ, zero, suc, ◌+◌, ◌≤◌, ◌<◌}
-use native.Mathlib.Numerals.{add-one}
-use lib.ListN.{length, drop, get_or}
-use lib.Seq.{drop-cons}
-use lib.Dec.{T, ltb}
-use borrow.Author.Tests.{lt-ltb, le-ltb, eq-eqb, ne_eqb, ltb-true}
-use Rattle.requirements.specs.Feature.{need, nothing_needed, rule_of, sm_of, architecture_from}
+use Prim.Native.Nat.{ℕ}
+use lib.ListN.{length, get_or, get_or-map}
+use lib.Dec.{eqb, ltb}
+use Rattle.std.proofs.Common.{Bor}
+use Rattle.std.specs.Prelude.{Option, Some, None, is_some, unwrap_or, option_map, option_copied}
+use Rattle.std.specs.List.{find}
+use Rattle.requirements.specs.Feature.{need, nothing_needed, any}
 use Rattle.requirements.specs.Position.{asked_at}
-use Rattle.requirements.specs.Target as targets
-use Rattle.requirements.specs.Target.{Target, target, find_in, feature_of}
+use Rattle.requirements.specs.Target.{target, find_in}
 use Rattle.requirements.specs.declared.Architecture.{Architecture}
-use Rattle.requirements.specs.declared.Architecture.TheVariants.{Any, AtLeast, Only}
 use Rattle.requirements.specs.declared.Requirement.{Requirement}
-use Rattle.std.specs.Prelude.{Some, None}
 
--- the columns that the code's tables keep of the requirements
-abbrev pub sinces : List Requirement → List ℕ
-sinces = map (λ (r : Requirement). r.since)
+-- a feature looked up by position
+pub asked_is : (table : List ℕ) (position : ℕ) (item : Option (Bor ℕ)) → is_some item ≡ ltb position (length table)
+    → unwrap_or (option_copied item) 0 ≡ get_or table position 0 → option_copied item ≡ asked_at table position
+asked_is table position None p q = rw (sym p)
+asked_is table position (Some x) p q = rw (sym p) (ap Some q)
 
-abbrev pub rules : List Requirement → List ℕ
-rules = map (λ (r : Requirement). rule_of r.architecture)
+-- a requirement as the code's table keeps it
+abbrev pub row : Requirement → ℕ × Architecture
+row r = (r.since, r.architecture)
 
-abbrev pub sms : List Requirement → List ℕ
-sms = map (λ (r : Requirement). sm_of r.architecture)
+pub requirement_is : (rows : List Requirement) (feature : ℕ) {item r : ℕ × Architecture} → r ≡ item → item ≡ get_or (map row rows) feature (0, any)
+    → need r.0 r.1 ≡ get_or rows feature nothing_needed
+requirement_is rows feature u e = ap (λ (r : ℕ × Architecture). need r.0 r.1) (u ∙ e ∙ get_or-map row rows feature nothing_needed)
 
-and_back : (a : Architecture) → architecture_from (rule_of a) (sm_of a) ≡ a
-unfolding architecture_from
-and_back Any = refl
-and_back (AtLeast sm) = refl
-and_back (Only sm) = refl
+-- the feature of the first target found
+module _ (sm : ℕ) where
+  abbrev pub has_sm : ℕ × ℕ → Bool
+  has_sm t = eqb t.0 sm
 
--- the three columns at a position make up the row there
-pub row : (rows : List Requirement) (k : ℕ)
-    → need (get_or (sinces rows) k 0) (architecture_from (get_or (rules rows) k 0) (get_or (sms rows) k 0))
-    ≡ get_or rows k nothing_needed
-row [] k = ap (need 0) (and_back Any)
-row (r ∷ rs) zero = ap (need r.since) (and_back r.architecture)
-row (r ∷ rs) (suc k) = row rs k
+  turn : (b : Bool) (t : ℕ × ℕ) (r : Option (ℕ × ℕ)) → option_map (λ (t : ℕ × ℕ). t.1) (cond b (Some t) r) ≡ cond b (Some t.1) (option_map (λ (t : ℕ × ℕ). t.1) r)
+  turn true t r = refl
+  turn false t r = refl
 
-module _ (table : List ℕ) (position : ℕ) where
-  pub inside : position < length table → Some (get_or table position 0) ≡ asked_at table position
-  inside h = simp (lt-ltb _ _ h)
+  found_in : (rows : List (ℕ × ℕ)) → option_map (λ (t : ℕ × ℕ). t.1) (find has_sm rows) ≡ find_in (map (λ (t : ℕ × ℕ). target t.0 t.1) rows) sm
+  found_in [] = refl
+  found_in (t ∷ ts) = turn (has_sm t) t (find has_sm ts) ∙ rw (found_in ts)
 
-  pub outside : length table ≤ position → None ≡ asked_at table position
-  outside h = simp (le-ltb _ _ h)
-
--- the code's tables hold bytes
-unfoldable pub all_bytes : List ℕ → Bool
-all_bytes [] = true
-all_bytes (x ∷ xs) = ltb x 256 && all_bytes xs
-
-no_true {ℓ} : {X : Type ℓ} → false ≡ true → X
-no_true e = absurd (subst T (sym e) tt)
-
-both : (t : Bool) {u : Bool} → t && u ≡ true → (t ≡ true) × (u ≡ true)
-both true e = (refl, e)
-both false e = no_true e
-
-pub byte : (xs : List ℕ) (k : ℕ) → all_bytes xs ≡ true → get_or xs k 0 < 256
-unfolding all_bytes
-byte [] k e = ltb-true 0 256 refl
-byte (x ∷ xs) zero e = ltb-true x 256 (both (ltb x 256) e).0
-byte (x ∷ xs) (suc k) e = byte xs k (both (ltb x 256) e).1
-
-abbrev pub no_target : Target
-no_target = target 0 0
-
-module _ (ts : List Target) (sm i : ℕ) (h : i < length ts) where
-  pub here : targets.sm_of (get_or ts i no_target) ≡ sm → find_in (drop i ts) sm ≡ Some (feature_of (get_or ts i no_target))
-  here e = rw (drop-cons ts i no_target) (simp (eq-eqb _ _ e))
-
-  pub next : (targets.sm_of (get_or ts i no_target) ≡ sm → ⊥) → find_in (drop i ts) sm ≡ find_in (drop (i + 1) ts) sm
-  next e = rw (add-one, drop-cons ts i no_target) (simp (ne_eqb _ _ e))
+  pub target_is : {given rows : List (ℕ × ℕ)} {r o : Option (Bor (ℕ × ℕ))} → given ≡ rows → option_map (λ (t : Bor (ℕ × ℕ)). t.now) r ≡ find has_sm rows → r ≡ o
+      → option_map (λ (t : Bor (ℕ × ℕ)). t.now.1) o ≡ find_in (map (λ (t : ℕ × ℕ). target t.0 t.1) rows) sm
+  target_is {given} {rows} {r} {o} g e s = split o ∙ ap (option_map (λ (t : ℕ × ℕ). t.1)) (ap (option_map (λ (t : Bor (ℕ × ℕ)). t.now)) (sym s) ∙ e) ∙ found_in rows
+    where
+      split : (o : Option (Bor (ℕ × ℕ))) → option_map (λ (t : Bor (ℕ × ℕ)). t.now.1) o ≡ option_map (λ (t : ℕ × ℕ). t.1) (option_map (λ (t : Bor (ℕ × ℕ)). t.now) o)
+      split None = refl
+      split (Some t) = refl

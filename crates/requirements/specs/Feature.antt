@@ -1,5 +1,5 @@
 -- The 35 features and what each requires: the `features!` rows of requirements.rs, in the order of `Feature::ALL`.
-use Rattle.std.specs.Prelude.{ℕ, List, [], ◌∷◌, get_or, eqb, cond}
+use Rattle.std.specs.Prelude.{ℕ, List, [], ◌∷◌, get_or}
 use Rattle.requirements.specs.declared.Architecture.{Architecture}
 use Rattle.requirements.specs.declared.Architecture.TheVariants.{Any, AtLeast, Only}
 use Rattle.requirements.specs.declared.Requirement.{Requirement}
@@ -13,21 +13,6 @@ at_least sm = AtLeast sm
 
 abbrev pub only : ℕ → Architecture
 only sm = Only sm
-
--- the rule's number and its sm, as the code's tables keep them: 0 any, 1 at least, 2 only
-abbrev pub rule_of : Architecture → ℕ
-rule_of Any = 0
-rule_of (AtLeast sm) = 1
-rule_of (Only sm) = 2
-
-abbrev pub sm_of : Architecture → ℕ
-sm_of Any = 0
-sm_of (AtLeast sm) = sm
-sm_of (Only sm) = sm
-
--- and back
-unfoldable pub architecture_from : ℕ → ℕ → Architecture
-architecture_from rule sm = cond (eqb rule 0) any (cond (eqb rule 1) (at_least sm) (only sm))
 
 -- a requirement: the first minor version (2 is 13.2), and the architectures
 abbrev pub need : ℕ → Architecture → Requirement

@@ -1,13 +1,14 @@
 #![tactic(auto)]
 
 ghost use Rattle.std.specs.Prelude.{◌≡◌, get_or};
-ghost use Rattle.requirements.specs.Feature.{requirement_of, architecture_from};
-ghost use Rattle.requirements.specs.Met.{met_by};
+ghost use Rattle.requirements.specs.Feature.{requirement_of};
+ghost use Rattle.requirements.specs.Met.{architecture_met, met_by};
 ghost use Rattle.requirements.specs.Target.{target_feature};
 ghost use Rattle.requirements.specs.Opcode.{opcode_feature};
 ghost use Rattle.requirements.specs.Kind.{kind_feature};
 ghost use Rattle.requirements.specs.Attribute.{any_true, is_value, has_true, exp_rounded, attribute_feature};
 
+use crate::Architecture::{Any, AtLeast, Only};
 use names::{BOOL, BOOLS, FAST_ACC, INBOUNDS, INTEGER, PRODUCER, ROUNDING_MODE, SATURATING};
 
 #[derive(Clone, Copy)]
@@ -33,6 +34,11 @@ pub enum Unmet {
 // The opcode of the exponential.
 const EXP: u64 = 23;
 
+// Rounding modes: the full one, and to nearest with ties away.
+const FULL: u64 = 5;
+
+const AWAY: u64 = 7;
+
 // The features that attributes ask for.
 const NEAREST_AWAY: u64 = 18;
 
@@ -46,33 +52,63 @@ const EXP_ROUNDING: u64 = 23;
 
 const PRODUCER_FEATURE: u64 = 24;
 
-// The constant tables hold bytes: a lookup writes its table out before it reads a place of it.
-// The first minor version with each feature.
-const SINCE: [u8; 35] = [
-    2, 3, 3, 3, 3, 3, 3, 4, 4, 4, 4, 3, 2, 2, 3, 4, 4, 4, 4, 4, 4, 4, 3, 3, 3, 3, 3, 3, 2, 4, 3, 4,
-    3, 4, 4,
+// What each feature requires: the first minor version with it, and the architectures.
+static FEATURES: [(u64, Architecture); 35] = [
+    (2, AtLeast(80)), // 0 Baseline
+    (3, Any), // 1 Allocation
+    (3, Any), // 2 Packing
+    (3, AtLeast(100)), // 3 ScaledMma
+    (3, Any), // 4 GatherScatterView
+    (3, Any), // 5 StridedView
+    (3, Any), // 6 AtomicRedView
+    (4, Any), // 7 Insert
+    (4, Any), // 8 IntegerPower
+    (4, Any), // 9 GdcTokens
+    (4, Any), // 10 AliasFence
+    (3, Any), // 11 Int4
+    (2, AtLeast(90)), // 12 Fp8
+    (2, AtLeast(100)), // 13 E8Scale
+    (3, AtLeast(100)), // 14 Fp4
+    (4, AtLeast(107)), // 15 F8E5M3FNU
+    (4, Only(107)), // 16 NewScaleMma
+    (4, Any), // 17 PointerAttribute
+    (4, Any), // 18 NearestAway
+    (4, Any), // 19 ExtendedFloatRounding
+    (4, Any), // 20 SaturatingFToI
+    (4, Any), // 21 Inbounds
+    (3, Any), // 22 FastAccumulation
+    (3, Any), // 23 ExpRounding
+    (3, Any), // 24 Producer
+    (3, Any), // 25 GlobalConstant
+    (3, Any), // 26 GlobalVisibility
+    (3, Any), // 27 WorkerWarps
+    (2, AtLeast(90)), // 28 ClusterCta
+    (4, Any), // 29 WorkerWarpsRestricted
+    (3, AtLeast(90)), // 30 Bf16AtomicAdd
+    (4, Any), // 31 LoopReturn
+    (3, Only(90)), // 32 HopperTarget
+    (4, Only(107)), // 33 RubinTarget
+    (4, AtLeast(90)), // 34 ProgrammaticDependentLaunch
 ];
 
-// The architecture rule of each feature: 0 any, 1 at least, 2 only.
-const ARCHITECTURE: [u8; 35] = [
-    1, 0, 0, 1, 0, 0, 0, 0, 0, 0, 0, 0, 1, 1, 1, 1, 2, 0, 0, 0, 0, 0, 0, 0, 0, 0, 0, 0, 1, 0, 1, 0,
-    2, 2, 1,
+// The targets of the dialect: the sm, and the feature that it asks for.
+static TARGETS: [(u64, u64); 12] = [
+    (80, 0),
+    (86, 0),
+    (87, 0),
+    (88, 0),
+    (89, 0),
+    (90, 32),
+    (100, 0),
+    (103, 0),
+    (107, 33),
+    (110, 0),
+    (120, 0),
+    (121, 0),
 ];
-
-// The sm that the rule names; 0 where any will do.
-const SM: [u8; 35] = [
-    80, 0, 0, 100, 0, 0, 0, 0, 0, 0, 0, 0, 90, 100, 100, 107, 107, 0, 0, 0, 0, 0, 0, 0, 0, 0, 0, 0,
-    90, 0, 90, 0, 90, 107, 90,
-];
-
-// The targets of the dialect.
-const TARGET_SM: [u8; 12] = [80, 86, 87, 88, 89, 90, 100, 103, 107, 110, 120, 121];
-
-// The feature that each target asks for.
-const TARGET_FEATURE: [u8; 12] = [0, 0, 0, 0, 0, 32, 0, 0, 33, 0, 0, 0];
 
 // The feature that each opcode asks for.
-const OPCODE: [u8; 105] = [
+static OPCODES: [u64; 105] = [
     0, 0, 0, 0, 0, 0, 0, 0, 0, 0, 0, 0, 0, 0, 0, 0, 0, 0, 0, 0, 0, 0, 0, 0, 0, 0, 0, 0, 0, 0, 0, 0,
     0, 0, 0, 0, 0, 0, 0, 0, 0, 0, 0, 0, 0, 0, 0, 0, 0, 0, 0, 0, 0, 0, 0, 0, 0, 0, 0, 0, 0, 0, 0, 0,
     0, 0, 0, 0, 0, 0, 0, 0, 0, 0, 0, 0, 0, 0, 0, 0, 0, 0, 0, 0, 0, 0, 0, 0, 0, 0, 0, 0, 0, 2, 2, 1,
@@ -80,16 +116,36 @@ const OPCODE: [u8; 105] = [
 ];
 
 // The feature that each element kind asks for.
-const KIND: [u8; 16] = [0, 11, 0, 0, 0, 0, 0, 0, 0, 0, 0, 12, 12, 13, 14, 15];
+static KINDS: [u64; 16] = [0, 11, 0, 0, 0, 0, 0, 0, 0, 0, 0, 12, 12, 13, 14, 15];
 
-// The architectures that a rule and its sm name.
-fn architecture_of(rule: u64, sm: u64) -> Architecture
-    ensures { result ≡ architecture_from rule sm }
-{
-    match rule {
-        0 => Architecture::Any,
-        1 => Architecture::AtLeast(sm),
-        _ => Architecture::Only(sm),
+impl Architecture {
+    // Whether an sm is one of these.
+    fn met(self, sm: u64) -> Result<(), Unmet>
+        ensures { result ≡ architecture_met self sm }
+    {
+        let met = match self {
+            Any => true,
+            AtLeast(least) => least <= sm,
+            Only(one) => sm == one,
+        };
+        if met {
+            Ok(())
+        } else {
+            Err(Unmet::ArchitectureNot)
+        }
+    }
+}
+
+impl Requirement {
+    // Whether a target meets this: the version is asked first, then the architecture.
+    #[tactic(auto, unfolding(crate::specs::Met::met_by))]
+    fn met(self, version: u64, sm: u64) -> Result<(), Unmet>
+        ensures { result ≡ met_by self version sm }
+    {
+        if version < self.since {
+            return Err(Unmet::VersionLow);
+        }
+        self.architecture.met(sm)
     }
 }
 
@@ -97,155 +153,89 @@ fn architecture_of(rule: u64, sm: u64) -> Architecture
 pub fn feature_requirement(feature: u64) -> Requirement
     ensures { result ≡ requirement_of feature }
 {
-    if 35 <= feature {
-        return Requirement {
-            since: 0,
-            architecture: Architecture::Any,
-        };
-    }
-    let i = feature as usize;
-    let architecture = architecture_of(ARCHITECTURE[i] as u64, SM[i] as u64);
+    let (since, architecture) = FEATURES.get(feature as usize).copied().unwrap_or((0, Any));
     Requirement {
-        since: SINCE[i] as u64,
+        since,
         architecture,
     }
 }
 
-// Whether a target meets what a feature requires: the version is asked first, then the architecture.
+// Whether a target meets what a feature requires.
 pub fn requirement_met(feature: u64, version: u64, sm: u64) -> Result<(), Unmet>
     ensures { result ≡ met_by (requirement_of feature) version sm }
 {
-    let need = feature_requirement(feature);
-    if version < need.since {
-        return Err(Unmet::VersionLow);
-    }
-    let architecture = need.architecture;
-    match architecture {
-        Architecture::Any => Ok(()),
-        Architecture::AtLeast(least) => {
-            if least <= sm {
-                Ok(())
-            } else {
-                Err(Unmet::ArchitectureNot)
-            }
-        }
-        Architecture::Only(one) => {
-            if sm == one {
-                Ok(())
-            } else {
-                Err(Unmet::ArchitectureNot)
-            }
-        }
-    }
+    feature_requirement(feature).met(version, sm)
 }
 
 // The target's own feature.
 pub fn target_requirement(sm: u64) -> Option<u64>
     ensures { result ≡ target_feature sm }
 {
-    let mut i: usize = 0;
-    while i < 12 {
-        if TARGET_SM[i] as u64 == sm {
-            return Some(TARGET_FEATURE[i] as u64);
-        }
-        i += 1;
-    }
-    None
+    let (_, feature) = TARGETS.iter().find(|(target, _)| *target == sm)?;
+    Some(*feature)
 }
 
 // The opcode's feature.
+#[tactic(auto, unfolding(crate::specs::Opcode::opcode_feature, crate::specs::Opcode::opcodes))]
 pub fn opcode_requirement(opcode: u64) -> Option<u64>
     ensures { result ≡ opcode_feature opcode }
 {
-    if opcode < 105 {
-        let i = opcode as usize;
-        Some(OPCODE[i] as u64)
-    } else {
-        None
-    }
+    OPCODES.get(opcode as usize).copied()
 }
 
 // The element kind's feature.
+#[tactic(auto, unfolding(crate::specs::Kind::kind_feature, crate::specs::Kind::kinds))]
 pub fn scalar_requirement(kind: u64) -> Option<u64>
     ensures { result ≡ kind_feature kind }
 {
-    if kind < 16 {
-        let i = kind as usize;
-        Some(KIND[i] as u64)
-    } else {
-        None
-    }
+    KINDS.get(kind as usize).copied()
 }
 
 // The first number of an attribute's list, and 0 of an empty one.
 fn first(numbers: &[u64]) -> u64
     ensures { result ≡ get_or numbers.now 0 0 }
 {
-    if 0 < numbers.len() { numbers[0] } else { 0 }
+    numbers.first().copied().unwrap_or(0)
 }
 
 // Whether a list of bools has a true one.
 fn any_true(bools: &[u64]) -> bool
     ensures { result ≡ any_true bools.now }
 {
-    let mut i: usize = 0;
-    while i < bools.len() {
-        if bools[i] == 1 {
-            return true;
-        }
-        i += 1;
-    }
-    false
+    bools.contains(&1)
 }
 
 // The attribute has the wanted name, form and value.
+#[tactic(auto, unfolding(crate::specs::Attribute::is_value))]
 fn is_value(wanted: u64, written: u64, value: u64, name: u64, form: u64, number: u64) -> bool
     ensures { result ≡ is_value wanted written value name form number }
 {
-    if name != wanted {
-        return false;
-    }
-    if form != written {
-        return false;
-    }
-    number == value
+    name == wanted && form == written && number == value
 }
 
 // The attribute has the wanted name and is a list of bools with a true one.
+#[tactic(auto, unfolding(crate::specs::Attribute::has_true))]
 fn has_true(wanted: u64, name: u64, form: u64, numbers: &[u64]) -> bool
     ensures { result ≡ has_true wanted name form numbers.now }
 {
-    if name != wanted {
-        return false;
-    }
-    if form != BOOLS {
-        return false;
-    }
-    any_true(numbers)
+    name == wanted && form == BOOLS && any_true(numbers)
 }
 
 // The attribute is a rounding mode of an exponential, and not the full one.
+#[tactic(auto, unfolding(crate::specs::Attribute::exp_rounded))]
 fn exp_rounded(opcode: u64, name: u64, form: u64, number: u64) -> bool
     ensures { result ≡ exp_rounded opcode name form number }
 {
-    if name != ROUNDING_MODE {
-        return false;
-    }
-    if form != INTEGER {
-        return false;
-    }
-    if opcode != EXP {
-        return false;
-    }
-    number != 5
+    name == ROUNDING_MODE && form == INTEGER && opcode == EXP && number != FULL
 }
 
 // The feature that an attribute of an operation asks for.
+#[tactic(auto, unfolding(crate::specs::Attribute::attribute_feature))]
 pub fn attribute_feature(opcode: u64, name: u64, form: u64, numbers: &[u64]) -> Option<u64>
     ensures { result ≡ attribute_feature opcode name form numbers.now }
 {
     let number = first(numbers);
-    if is_value(ROUNDING_MODE, INTEGER, 7, name, form, number) {
+    if is_value(ROUNDING_MODE, INTEGER, AWAY, name, form, number) {
         return Some(NEAREST_AWAY);
     }
     if is_value(SATURATING, BOOL, 1, name, form, number) {

@@ -1,17 +1,13 @@
--- `feature_requirement` meets its contract: the three tables are the columns of the definition's rows, by computation.
-use mathlib.Core.Path.{sym, ap, ◌∙◌}
-use lib.ListN.{get_or, get_or-eq_default}
-use Rattle.requirements.specs.Feature.{need, nothing_needed, features, requirement_of}
-use Rattle.requirements.proofs.Tables.{sinces, row}
+-- `feature_requirement` meets its contract: the table's rows are the definition's, by computation.
+use native.Mathlib.Omega.{arith}
+use mathlib.Core.Path.{ap, ◌∙◌}
+use Rattle.std.specs.Prelude.{unwrap_or}
+use Rattle.requirements.specs.Feature.{any, features, requirement_of}
+use Rattle.requirements.proofs.Tables.{requirement_is}
 use Rattle.requirements.proofs.feature_requirement.Goals as goal
-
-pub returns-then-feature-ge35 : goal.returns-then-feature-ge35
-unfolding features requirement_of
-returns-then-feature-ge35 c =
-    sym (get_or-eq_default features nothing_needed {n = c.args.feature} c.if-feature-ge35.true)
 
 pub returns : goal.returns
 unfolding features requirement_of
 returns c =
-    let k = c.args.feature in
-    ap (need (get_or (sinces features) k 0)) c.architecture_of-architecture.ensures ∙ row features k
+    let item = c.get.ensures.lookup in
+    requirement_is features c.args.feature (c.unwrap_or-since.ensures ∙ ap (λ o. unwrap_or o (0, any)) c.copied.ensures) (item.4 (omega arith) (0, any))

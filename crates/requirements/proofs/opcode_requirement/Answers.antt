@@ -1,14 +1,12 @@
 -- `opcode_requirement` meets its contract: the code's table is the definition's, by computation.
+use native.Mathlib.Omega.{arith}
+use mathlib.Core.Path.{◌∙◌}
 use Rattle.requirements.specs.Opcode.{opcodes, opcode_feature}
-use Rattle.requirements.proofs.Tables.{inside, outside}
+use Rattle.requirements.proofs.Tables.{asked_is}
 use Rattle.requirements.proofs.opcode_requirement.Goals as goal
 
-pub returns-then-opcode-lt105 : goal.returns-then-opcode-lt105
+pub returns : goal.returns
 unfolding opcodes opcode_feature
-returns-then-opcode-lt105 c =
-    inside opcodes c.args.opcode c.if-opcode-lt105.true
-
-pub returns-else-opcode-lt105 : goal.returns-else-opcode-lt105
-unfolding opcodes opcode_feature
-returns-else-opcode-lt105 c =
-    outside opcodes c.args.opcode c.if-opcode-lt105.false
+returns c =
+    let item = c.get.ensures.lookup in
+    c.copied.ensures ∙ asked_is opcodes c.args.opcode c.get.result item.0 (item.4 (omega arith) 0)
