@@ -118,10 +118,12 @@ module _ (p k : ℕ) (s : List ℕ) (h : p ≤ length s) (c : Cut) (read : c ≡
   after_part start end next e l =
       (part_within 10 p s h start end next (sym read ∙ e), later l ∙ ap (λ (x : Cut). nth_cut (k - 1) (following 10 s x)) e)
 
-  pub after_rest : (start end : ℕ) → c ≡ Rest start end → 0 < k → nth_cut k (placed p (split 10 (drop p s))) ≡ End
+  -- past the rest, and past the end, there is none
+  pub after_last : ((start end next : ℕ) → c ≡ Part start end next → ⊥) → 0 < k → nth_cut k (placed p (split 10 (drop p s))) ≡ End
   unfolding following nth_cut
-  after_rest start end e l = later l ∙ ap (λ (x : Cut). nth_cut (k - 1) (following 10 s x)) e
-
-  pub after_end : c ≡ End → 0 < k → nth_cut k (placed p (split 10 (drop p s))) ≡ End
-  unfolding following nth_cut
-  after_end e l = later l ∙ ap (λ (x : Cut). nth_cut (k - 1) (following 10 s x)) e
+  after_last other l = later l ∙ by c other
+    where
+      by : (c : Cut) → ((start end next : ℕ) → c ≡ Part start end next → ⊥) → nth_cut (k - 1) (following 10 s c) ≡ End
+      by (Part start end next) other = absurd (other start end next refl)
+      by (Rest start end) other = refl
+      by End other = refl

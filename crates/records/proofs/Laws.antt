@@ -14,8 +14,7 @@ use Rattle.fields.proofs.Parts.{end_ge, at_last, at_more}
 use Rattle.records.specs.declared.Cut.{Cut}
 use Rattle.records.specs.declared.Cut.TheVariants.{Part, Rest, End}
 use Rattle.records.specs.declared.Reader.{Reader}
-use Rattle.records.specs.declared.Read.{Read}
-use Rattle.records.specs.Read.{cut_at, line_at, field_at, place_past, moved_past, read_line, read_field, placed, nth_cut, line_of}
+use Rattle.records.specs.Read.{Read, cut_at, line_at, field_at, place_past, moved_past, read_line, read_field, placed, nth_cut, line_of}
 use Rattle.records.proofs.Cuts.{cut_part, cut_rest, placed_part, placed_rest}
 
 -- the bytes of a cut

@@ -5,7 +5,6 @@ use Rattle.std.specs.Borrow.{Bor}
 use Rattle.fields.specs.Cut.{end_from, split}
 use Rattle.records.specs.declared.Cut.{Cut}
 use Rattle.records.specs.declared.Reader.{Reader}
-use Rattle.records.specs.declared.Read.{Read}
 use Rattle.records.specs.declared.Cut.TheVariants.{Part, Rest, End}
 
 -- what starts at place p: the part up to the next b, with the place past that b; the rest, where no b follows; nothing past the end
@@ -32,6 +31,14 @@ place_past End p = p
 -- "holds the text it was lent and its place": the start
 abbrev pub opened : Bor (List ℕ) → Reader
 opened text = record { text = text; at = 0 }
+
+-- what was read, and the reader moved past it
+pub record Read : Type 0 where
+  pub cut : Cut
+  pub reader : Reader
+
+abbrev pub moved : Cut → Reader → Read
+moved c r = record { cut = c; reader = r }
 
 -- what was read at a reader's place, and the reader moved past it
 abbrev pub moved_past : Reader → Cut → Read

@@ -2,7 +2,7 @@
 #![tactic(auto)]
 
 ghost use Rattle.std.specs.Prelude.{◌≡◌};
-ghost use Rattle.records.specs.Read.{cut_at, line_at, field_at, place_past, opened, read_line, read_field, line_of};
+ghost use Rattle.records.specs.Read.{cut_at, line_at, field_at, place_past, opened, moved, read_line, read_field, line_of};
 
 #[derive(Clone, Copy)]
 pub struct Reader<'a> {
@@ -19,13 +19,6 @@ pub enum Cut {
     Rest { start: u64, end: u64 },
     // The place lies past the end.
     End,
-}
-
-// What was read, and the reader moved past it.
-#[derive(Clone, Copy)]
-pub struct Read<'a> {
-    pub cut: Cut,
-    pub reader: Reader<'a>,
 }
 
 fn cut_at(text: &[u8], at: u64, byte: u8) -> Cut
@@ -66,12 +59,8 @@ fn past(cut: Cut, at: u64) -> u64
     ensures { result ≡ place_past cut at }
 {
     match cut {
-        Cut::Part {
-            start: _,
-            end: _,
-            next,
-        } => next,
-        Cut::Rest { start: _, end } => end,
+        Cut::Part { next, .. } => next,
+        Cut::Rest { end, .. } => end,
         Cut::End => at,
     }
 }
@@ -84,32 +73,22 @@ pub fn new<'a>(text: &'a [u8]) -> Reader<'a>
 }
 
 impl<'a> Reader<'a> {
-    pub fn next_line(self) -> Read<'a>
-        ensures { result ≡ read_line self.entry }
+    // The next line, and past it.
+    pub fn next_line(&mut self) -> Cut
+        ensures { moved result self.new ≡ read_line self.old }
     {
         let cut = line_at(self.text, self.at);
-        let at = past(cut, self.at);
-        Read {
-            cut,
-            reader: Reader {
-                text: self.text,
-                at,
-            },
-        }
+        self.at = past(cut, self.at);
+        cut
     }
 
-    pub fn next_field(self) -> Read<'a>
-        ensures { result ≡ read_field self.entry }
+    // The next field, and past it.
+    pub fn next_field(&mut self) -> Cut
+        ensures { moved result self.new ≡ read_field self.old }
     {
         let cut = field_at(self.text, self.at);
-        let at = past(cut, self.at);
-        Read {
-            cut,
-            reader: Reader {
-                text: self.text,
-                at,
-            },
-        }
+        self.at = past(cut, self.at);
+        cut
     }
 }
 
@@ -117,7 +96,7 @@ impl<'a> Reader<'a> {
 pub fn line_from(text: &[u8], at: u64) -> Cut
     ensures { result ≡ line_at text.now at }
 {
-    Reader { text, at }.next_line().cut
+    Reader { text, at }.next_line()
 }
 
 // Line k of a text, counted from 1, in one pass: the place goes on from line to line.
@@ -128,24 +107,11 @@ pub fn line(text: &[u8], k: u64) -> Cut
         return Cut::End;
     }
     let mut at: u64 = 0;
-    let mut left = k;
-    while 1 < left {
-        match line_from(text, at) {
-            Cut::Part {
-                start: _,
-                end: _,
-                next,
-            } => {
-                at = next;
-            }
-            Cut::Rest { start: _, end: _ } => {
-                return Cut::End;
-            }
-            Cut::End => {
-                return Cut::End;
-            }
-        }
-        left -= 1;
+    for _line in 1..k {
+        let Cut::Part { next, .. } = line_from(text, at) else {
+            return Cut::End;
+        };
+        at = next;
     }
     line_from(text, at)
 }
