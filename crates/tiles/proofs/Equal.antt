@@ -22,6 +22,13 @@ unfolding eq_z
 eq_z_refl (pos n) = eq-eqb n n refl
 eq_z_refl (negsuc n) = eq-eqb n n refl
 
+pub eq_z_true : (x y : ℤ) → eq_z x y ≡ true → x ≡ y
+unfolding eq_z
+eq_z_true (pos m) (pos n) e = ap pos (eqb-true m n e)
+eq_z_true (pos m) (negsuc n) e = absurd (let z : ◌≡◌ {A = ℕ} 0 1 = cc in omega arith)
+eq_z_true (negsuc m) (pos n) e = absurd (let z : ◌≡◌ {A = ℕ} 0 1 = cc in omega arith)
+eq_z_true (negsuc m) (negsuc n) e = ap negsuc (eqb-true m n e)
+
 bits_same : {x y : ℤ} → SFits w64 x → SFits w64 y → of_z w64 x ≡ of_z w64 y → eq_z x y ≡ true
 bits_same {x} {y} f g e =
     let q : x ≡ y = sym (to_z-of_z f) ∙ ap (to_z w64) e ∙ to_z-of_z g in
@@ -41,6 +48,9 @@ bits_test {x} {y} f g = by (eqb (of_z w64 x) (of_z w64 y)) refl
     by : (t : Bool) → eqb (of_z w64 x) (of_z w64 y) ≡ t → eqb (of_z w64 x) (of_z w64 y) ≡ eq_z x y
     by true e = e ∙ sym (bits_same f g (eqb-true _ _ e))
     by false e = e ∙ sym (bits_other x y (eqb-false _ _ e))
+
+pub bits_is : {x : ℤ} (n : ℕ) → SFits w64 x → n < 2 ^ 63 → eqb (of_z w64 x) n ≡ eq_z x (pos n)
+bits_is n f h = bits_test f (small_fits n h)
 
 -- ---- a remainder
 

@@ -15,7 +15,7 @@ use Rattle.tables.specs.declared.Counts.{Counts}
 use Rattle.tiles.specs.Tile.{no_tile, eight_of, cells_of, row_tile, seen_in, tile_in, view_in, dims_of, rank_of, same_element}
 use Rattle.tiles.specs.Shape.{eq_z, all_pairs, same_rank, same_shape, same_tile}
 use Rattle.tiles.specs.declared.Tile.{Tile}
-use Rattle.tiles.proofs.Equal.{eq_z_refl}
+use Rattle.tiles.proofs.Equal.{eq_z_refl, eq_z_true}
 use Rattle.tiles.proofs.Rows.{take_least, cells_at, dims_are}
 
 -- ---- read off the tables
@@ -74,13 +74,6 @@ and_left false b e = e
 and_right : (a b : Bool) → (a && b) ≡ true → b ≡ true
 and_right true b e = e
 and_right false b e = absurd (let z : ◌≡◌ {A = ℕ} 0 1 = cc in omega arith)
-
-eq_z_true : (x y : ℤ) → eq_z x y ≡ true → x ≡ y
-unfolding eq_z
-eq_z_true (pos m) (pos n) e = ap pos (eqb-true m n e)
-eq_z_true (pos m) (negsuc n) e = absurd (let z : ◌≡◌ {A = ℕ} 0 1 = cc in omega arith)
-eq_z_true (negsuc m) (pos n) e = absurd (let z : ◌≡◌ {A = ℕ} 0 1 = cc in omega arith)
-eq_z_true (negsuc m) (negsuc n) e = ap negsuc (eqb-true m n e)
 
 all_true : (xs ys : List ℤ) → length xs ≡ length ys → all_pairs eq_z xs ys ≡ true → xs ≡ ys
 unfolding all_pairs

@@ -1,6 +1,6 @@
 // A tile by value, and the tests that the operation rules make of tiles. Every function answers on every input, so the parts of a test
 // are joined by `&` and `|`: no part has to be asked first.
-#![tactic(auto)]
+#![tactic(auto, unfolding(crate::specs::Kind::is_integer, crate::specs::Kind::bits_in, crate::specs::Tile::no_tile, crate::specs::Tile::row_tile, crate::specs::Tile::is_tile, crate::specs::Tile::is_number, crate::specs::Tile::is_pointer, crate::specs::Tile::scalar_of, crate::specs::Tile::has_kind, crate::specs::Tile::same_scalar, crate::specs::Tile::same_element, crate::specs::Tile::points_to, crate::specs::Tile::is_integers, crate::specs::Tile::is_integers_or_pointers, crate::specs::Shape::same_dim, crate::specs::Shape::same_rank, crate::specs::Shape::same_shape, crate::specs::Shape::same_tile, crate::specs::Shape::undivided_by, crate::specs::Shape::is_uneven, crate::specs::Shape::stretches_to, crate::specs::Shape::is_stretched, crate::specs::Shape::quotient_of, crate::specs::Shape::count_of, crate::specs::Rules::same_bits, crate::specs::Rules::is_bitcast, crate::specs::Rules::is_reshape, crate::specs::Rules::is_broadcast, crate::specs::Rules::is_permutation, crate::specs::Rules::is_permuted, crate::specs::Rules::is_packable, crate::specs::Rules::bit_count_of, crate::specs::Rules::is_packed, crate::specs::Rules::atomic_differs, crate::specs::Rules::is_word, crate::specs::Rules::is_wrong_mask, crate::specs::Rules::outside_dim, crate::specs::Rules::is_group_outside, crate::specs::Rules::is_groups_outside, crate::specs::Rules::is_power_base, crate::specs::Rules::is_power_exponent, crate::specs::Rules::is_no_part, crate::specs::Rules::is_index, crate::specs::Rules::is_axis_index, crate::specs::Mma::row_of, crate::specs::Mma::column_of, crate::specs::Mma::mma_ranks_differ, crate::specs::Mma::mma_dims_differ, crate::specs::Mma::is_mma_pair, crate::specs::Mma::is_mma_kinds, crate::specs::Mma::scale_ranks_differ, crate::specs::Mma::scale_dims_differ, crate::specs::Mma::vector_of, crate::specs::Mma::is_scaled, crate::specs::Mma::is_scale_kinds))]
 
 ghost use Rattle.std.specs.Prelude.{◌≡◌, not, ◌||◌, map, drop};
 ghost use Rattle.arith.specs.Signed.{signed_of};
@@ -71,29 +71,23 @@ pub fn no_tile() -> Tile
 fn eight(bits: &[u64]) -> [i64; 8]
     ensures { result ≡ eight_of bits.now }
 {
-    let mut dims = [0i64; 8];
-    let mut i: usize = 0;
-    while i < 8 {
-        let d = arith::signed(cells::at(bits, i as u64));
-        dims[i] = d;
-        i += 1;
+    let mut dims = [0; 8];
+    for i in 0..8 {
+        dims[i] = arith::signed(cells::at(bits, i as u64));
     }
     dims
 }
 
 // The eight dims of a type's cells, with 0 where there are none. Whole cells are copied as they stand.
-fn dims_of(row: &[u64]) -> [i64; 8]
+fn row_dims(row: &[u64]) -> [i64; 8]
     ensures { result ≡ eight_of (drop 8 row.now) }
 {
     if row.len() < 16 {
         return eight(cells::entries(row, Span { start: 8, len: 8 }));
     }
-    let mut dims = [0i64; 8];
-    let mut i: usize = 0;
-    while i < 8 {
-        let d = arith::signed(row[8 + i]);
-        dims[i] = d;
-        i += 1;
+    let mut dims = [0; 8];
+    for i in 0..8 {
+        dims[i] = arith::signed(row[8 + i]);
     }
     dims
 }
@@ -103,9 +97,10 @@ fn cut_tile(form: u64, row: &[u64]) -> Tile
     ensures { result ≡ row_tile form row.now }
 {
     let kind = cells::at(row, 1);
-    let wanted = cells::least(cells::at(row, 5), tables::MAX_RANK);
-    let rank = cells::least(wanted, cells::rest(row.len() as u64, 8));
-    let dims = dims_of(row);
+    let dims = row_dims(row);
+    let rank = cells::at(row, 5)
+        .min(tables::MAX_RANK)
+        .min((row.len() as u64).saturating_sub(8));
     Tile {
         form,
         kind,
@@ -122,8 +117,8 @@ fn row_tile(form: u64, row: &[u64]) -> Tile
         return cut_tile(form, row);
     }
     let kind = row[1];
-    let rank = cells::least(row[5], tables::MAX_RANK);
-    let dims = dims_of(row);
+    let rank = row[5].min(tables::MAX_RANK);
+    let dims = row_dims(row);
     Tile {
         form,
         kind,
@@ -183,22 +178,27 @@ pub fn view_tile(x: &Tables<'_>, id: u64) -> Tile
     no_tile()
 }
 
-// How many dims count.
+// The dims that count.
+fn shape(t: &Tile) -> &[i64]
+    ensures { result.now ≡ dims_of t.now }
+{
+    let n = t.rank.min(tables::MAX_RANK) as usize;
+    &t.dims[..n]
+}
+
+// How many they are.
 pub fn rank(t: Tile) -> u64
     ensures { result ≡ rank_of t }
 {
-    cells::least(t.rank, 8)
+    t.rank.min(tables::MAX_RANK)
 }
 
 // Dim i, 0 past the rank.
+#[tactic(auto, unfolding(crate::specs::Tile::dim_of))]
 pub fn dim(t: Tile, i: u64) -> i64
     ensures { result ≡ dim_of t i }
 {
-    if rank(t) <= i {
-        return 0;
-    }
-    let k = i as usize;
-    t.dims[k]
+    shape(&t).get(i as usize).copied().unwrap_or(0)
 }
 
 pub fn is_tile(t: Tile) -> bool
@@ -280,35 +280,10 @@ pub fn same_dim(a: Tile, i: u64, b: Tile, j: u64) -> bool
     dim(a, i) == dim(b, j)
 }
 
-fn same_number(a: i64, b: i64) -> bool
-    ensures { result ≡ eq_z a b }
-{
-    a == b
-}
-
-// The dims are the same, up to the shorter. They are read here, since a call would take a copy of the tile at each turn; and eight turns at
-// most are known before, so that no dim is looked up by a number.
-fn same_dims(a: Tile, b: Tile) -> bool
-    ensures { result ≡ all_pairs eq_z (dims_of a) (dims_of b) }
-{
-    let n = cells::least(rank(a), rank(b)) as usize;
-    let mut i: usize = 0;
-    while i < 8 {
-        if n <= i {
-            return true;
-        }
-        if !same_number(a.dims[i], b.dims[i]) {
-            return false;
-        }
-        i += 1;
-    }
-    true
-}
-
 pub fn same_shape(a: Tile, b: Tile) -> bool
     ensures { result ≡ same_shape a b }
 {
-    same_rank(a, b) & same_dims(a, b)
+    shape(&a) == shape(&b)
 }
 
 pub fn same_tile(a: Tile, b: Tile) -> bool
@@ -331,18 +306,10 @@ pub fn undivided(small: i64, large: i64) -> bool
 pub fn uneven(small: Tile, large: Tile) -> bool
     ensures { result ≡ is_uneven small large }
 {
-    let n = cells::least(rank(small), rank(large)) as usize;
-    let mut i: usize = 0;
-    while i < 8 {
-        if n <= i {
-            return false;
-        }
-        if undivided(small.dims[i], large.dims[i]) {
-            return true;
-        }
-        i += 1;
-    }
-    false
+    shape(&small)
+        .iter()
+        .zip(shape(&large))
+        .any(|(s, l)| undivided(*s, *l))
 }
 
 // A dim that a broadcast takes to this one.
@@ -356,27 +323,17 @@ fn stretches(a: i64, b: i64) -> bool
 pub fn stretched(src: Tile, dst: Tile) -> bool
     ensures { result ≡ is_stretched src dst }
 {
-    let n = cells::least(rank(src), rank(dst)) as usize;
-    let mut i: usize = 0;
-    while i < 8 {
-        if n <= i {
-            return true;
-        }
-        if !stretches(src.dims[i], dst.dims[i]) {
-            return false;
-        }
-        i += 1;
-    }
-    true
+    shape(&src)
+        .iter()
+        .zip(shape(&dst))
+        .all(|(s, d)| stretches(*s, *d))
 }
 
 // The product of the dims, from the left.
 pub fn count(t: Tile) -> Option<i64>
     ensures { result ≡ count_of t }
 {
-    let n = rank(t) as usize;
-    let dims = t.dims;
-    arith::product_of(&dims[..n])
+    arith::product_of(shape(&t))
 }
 
 // Two products that are i64s, and the same.
@@ -399,7 +356,7 @@ pub fn bits(sheet: &[u64], kind: u64) -> u64
     if (kind == I4) | (kind == F4E2M1FN) {
         return 4;
     }
-    8 * cells::least(tables::byte_width(sheet, kind), 8)
+    8 * tables::byte_width(sheet, kind).min(8)
 }
 
 // ---- the six shape operations
@@ -428,27 +385,13 @@ pub fn is_broadcast(src: Tile, dst: Tile) -> bool
     same_element(src, dst) & same_rank(src, dst) & stretched(src, dst)
 }
 
-fn has_axis(entries: &[u64], axis: u64) -> bool
-    ensures { result ≡ mem axis entries.now }
-{
-    let mut i: usize = 0;
-    while i < entries.len() {
-        if entries[i] == axis {
-            return true;
-        }
-        i += 1;
-    }
-    false
-}
-
 // Every axis below n is among the entries.
+#[tactic(auto, using(crate::proofs::Axes::mem_is, crate::proofs::Axes::axes_none, crate::proofs::Axes::axes_more, crate::proofs::Axes::axes_not))]
 fn has_axes(entries: &[u64], n: u64) -> bool
     ensures { result ≡ has_axes entries.now n }
 {
-    let mut left = n;
-    while 0 < left {
-        left -= 1;
-        if !has_axis(entries, left) {
+    for axis in 0..n {
+        if !entries.contains(&axis) {
             return false;
         }
     }
@@ -462,15 +405,14 @@ fn is_permutation(entries: &[u64], n: u64) -> bool
 }
 
 // Each dim of the result is the source's at the entry.
+#[tactic(auto, using(crate::proofs::Axes::moved_more, crate::proofs::Axes::moved_end))]
 fn moved(src: Tile, dst: Tile, entries: &[u64]) -> bool
     ensures { result ≡ moved_from src dst 0 entries.now }
 {
-    let mut i: usize = 0;
-    while i < entries.len() {
-        if !same_dim(dst, i as u64, src, entries[i]) {
+    for (i, &k) in entries.iter().enumerate() {
+        if !same_dim(dst, i as u64, src, k) {
             return false;
         }
-        i += 1;
     }
     true
 }
@@ -501,19 +443,13 @@ pub fn is_packable(sheet: &[u64], src: Tile, dst: Tile) -> bool
 pub fn bit_count(sheet: &[u64], t: Tile) -> Option<i64>
     ensures { result ≡ bit_count_of sheet.now t }
 {
-    let Some(n) = count(t) else {
-        return None;
-    };
-    arith::times(n, bits(sheet, t.kind) as i64)
+    arith::times(count(t)?, bits(sheet, t.kind) as i64)
 }
 
 fn in_bytes(p: Option<i64>) -> bool
     ensures { result ≡ in_bytes p }
 {
-    match p {
-        Some(n) => !undivided(8, n),
-        None => false,
-    }
+    p.is_some_and(|n| !undivided(8, n))
 }
 
 // As many bits on both sides, in whole bytes.
@@ -569,15 +505,10 @@ pub fn group_outside(t: Tile, every: u64, along: u64) -> bool
 fn some_outside(sizes: &[u64], t: Tile) -> bool
     ensures { result ≡ any_pair outside_dim (map signed_of sizes.now) (dims_of t) }
 {
-    let n = cells::least(sizes.len() as u64, rank(t));
-    let mut i: u64 = 0;
-    while i < n {
-        if outside(arith::signed(cells::at(sizes, i)), dim(t, i)) {
-            return true;
-        }
-        i += 1;
-    }
-    false
+    sizes
+        .iter()
+        .zip(shape(&t))
+        .any(|(size, dim)| outside(arith::signed(*size), *dim))
 }
 
 // Not one group size for each axis.
@@ -633,14 +564,14 @@ pub fn is_axis_index(index: Tile, view: Tile, axis: u64) -> bool
 fn row(t: Tile) -> u64
     ensures { result ≡ row_of t }
 {
-    cells::rest(rank(t), 2)
+    rank(t).saturating_sub(2)
 }
 
 // The last dim.
 fn column(t: Tile) -> u64
     ensures { result ≡ column_of t }
 {
-    cells::rest(rank(t), 1)
+    rank(t).saturating_sub(1)
 }
 
 pub fn mma_ranks_differ(a: Tile, b: Tile, c: Tile, res: Tile) -> bool

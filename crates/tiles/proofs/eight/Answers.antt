@@ -6,4 +6,4 @@ use Rattle.tiles.proofs.eight.Goals as goal
 pub returns : goal.returns
 returns c =
     let l = c.loop-i in
-    eight_is l.dims c.args.bits.now l.invariant.1 (λ k h. l.invariant.2 k (omega arith))
+    eight_is l.dims c.args.bits.now l.invariant.0 (λ k h. l.invariant.1 k (omega arith))

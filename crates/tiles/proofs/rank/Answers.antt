@@ -5,5 +5,4 @@ use Rattle.tiles.proofs.Dims.{rank_is}
 use Rattle.tiles.proofs.rank.Goals as goal
 
 pub returns : goal.returns
-returns c =
-    c.least.ensures ∙ sym (rank_is c.args.t (search rules))
+returns c = c.min.ensures ∙ sym (rank_is c.args.t (search rules))
