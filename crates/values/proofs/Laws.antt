@@ -1,6 +1,7 @@
 -- What the bases and the claims tell where there is room: where each declared result stands, and its value. Where code 4 passes, each
 -- value has one place and each declared result one value. Assumes nothing.
 use Prim.Native.Nat.{ℕ, zero, suc, ◌+◌, ◌≤◌, ◌<◌}
+use native.Mathlib.Numerals.{add-one}
 use native.Mathlib.Omega.{arith}
 use mathlib.Core.Path.{◌≡◌, refl, sym, ap, ◌∙◌}
 use mathlib.Core.Bool.{Bool, true, false, cond, ◌&&◌, ◌||◌, true≢false, false≢true}
@@ -17,14 +18,14 @@ use Rattle.tables.specs.Sizes.{max_entries}
 use Rattle.tables.specs.Tables.{Tables, lent, result_types, claim, declared}
 use Rattle.tables.specs.Value.{is_claim, value_of}
 use Rattle.tables.specs.declared.Claim.{Claim}
-use Rattle.tables.specs.declared.Claim.TheVariants.{Result, Nothing}
-use Rattle.std.specs.Prelude.{Ok}
+use Rattle.std.specs.Prelude as std
+use Rattle.std.specs.Prelude.{Ok, Some, None}
 use Rattle.listed.proofs.Find.{find_none, find_same}
 use Rattle.values.specs.Results.{declared_in}
 use Rattle.values.specs.Guarded.{guarded_twice}
 use Rattle.values.specs.Single.{Single}
 use Rattle.values.specs.Twice.{all_arguments, claimed_below, twice_by, defined_twice, refused, values_twice}
-use Rattle.values.specs.Claims.{base_of, fill_below, bases_after, put_claim, claims_by, claims_after, number_of}
+use Rattle.values.specs.Claims.{base_of, fill_below, bases_after, put_claim, claims_by, claims_after, number_of, value_in}
 use Rattle.values.proofs.Results.{declared_up, result_before, result_apart, result_counted}
 
 -- ---- the bases
@@ -70,13 +71,13 @@ not_both a b c d f = go (eqb a b && eqb c d) refl
     go true e = let p = both_eq a b c d e in absurd (f p.0 p.1)
     go false e = refl
 
-length_put : (d : ℕ → ℕ → Bool) (bases : List ℕ) (number : ℕ) (c : Claim) (cells : List ℕ) → length (put_claim d bases number c cells) ≡ length cells
+length_put : (d : ℕ → ℕ → Bool) (bases : List ℕ) (number : ℕ) (c : std.Option Claim) (cells : List ℕ) → length (put_claim d bases number c cells) ≡ length cells
 unfolding put_claim
-length_put d bases number Nothing cells = refl
-length_put d bases number (Result i k) cells = go (d i k)
+length_put d bases number None cells = refl
+length_put d bases number (Some c) cells = go (d c.operation c.index)
   where
-    go : (t : Bool) → length (cond t (set cells (get_or bases i 0 + k) number) cells) ≡ length cells
-    go true = length-set cells (get_or bases i 0 + k) number
+    go : (t : Bool) → length (cond t (set cells (get_or bases c.operation 0 + c.index) number) cells) ≡ length cells
+    go true = length-set cells (get_or bases c.operation 0 + c.index) number
     go false = refl
 
 length_claims : (put : ℕ → List ℕ → List ℕ) → ((v : ℕ) (cells : List ℕ) → length (put v cells) ≡ length cells)
@@ -100,35 +101,35 @@ number_cond false v held o = refl
 module _ (x : Tables) (bases : List ℕ) (based : (i : ℕ) → i < x.counts.operations → get_or bases i 0 ≡ declared_in x i)
     (i k : ℕ) (h : k < length (result_types x i)) where
   -- one claim changes the cell of the result that it claims, and no other
-  put_at : (number : ℕ) (c : Claim) (cells : List ℕ) → declared_in x x.counts.operations ≤ length cells
+  put_at : (number : ℕ) (c : std.Option Claim) (cells : List ℕ) → declared_in x x.counts.operations ≤ length cells
       → get_or (put_claim (declared x) bases number c cells) (declared_in x i + k) 0 ≡ cond (is_claim i k c) number (get_or cells (declared_in x i + k) 0)
   unfolding put_claim
-  put_at number Nothing cells room = refl
-  put_at number (Result i' k') cells room = go (declared x i' k') refl
+  put_at number None cells room = refl
+  put_at number (Some c) cells room = go (declared x c.operation c.index) refl
     where
       there : ℕ
-      there = get_or bases i' 0 + k'
+      there = get_or bases c.operation 0 + c.index
 
-      set_there : k' < length (result_types x i') → (t : Bool) → eqb (declared_in x i + k) there ≡ t
-          → get_or (set cells there number) (declared_in x i + k) 0 ≡ cond (eqb i' i && eqb k' k) number (get_or cells (declared_in x i + k) 0)
+      set_there : c.index < length (result_types x c.operation) → (t : Bool) → eqb (declared_in x i + k) there ≡ t
+          → get_or (set cells there number) (declared_in x i + k) 0 ≡ cond (eqb c.operation i && eqb c.index k) number (get_or cells (declared_in x i + k) 0)
       set_there h' true t =
           let e : declared_in x i + k ≡ there = eqb-true (declared_in x i + k) there t in
-          let b : get_or bases i' 0 ≡ declared_in x i' = based i' (result_counted x i' k' h') in
-          let p : i ≡ i' = result_apart x i k i' k' h h' (omega arith) in
-          let q : k ≡ k' = omega (arith, ap (declared_in x) p) in
-          rw (eq-eqb i' i (sym p), eq-eqb k' k (sym q), e) (get_or-set_same cells there number 0 (omega (arith, result_before x i k x.counts.operations h (result_counted x i k h))))
+          let b : get_or bases c.operation 0 ≡ declared_in x c.operation = based c.operation (result_counted x c.operation c.index h') in
+          let p : i ≡ c.operation = result_apart x i k c.operation c.index h h' (omega arith) in
+          let q : k ≡ c.index = omega (arith, ap (declared_in x) p) in
+          rw (eq-eqb c.operation i (sym p), eq-eqb c.index k (sym q), e) (get_or-set_same cells there number 0 (omega (arith, result_before x i k x.counts.operations h (result_counted x i k h))))
       set_there h' false t =
           let f : declared_in x i + k ≡ there → ⊥ = eqb-false (declared_in x i + k) there t in
-          let b : get_or bases i' 0 ≡ declared_in x i' = based i' (result_counted x i' k' h') in
-          let n : eqb i' i && eqb k' k ≡ false = not_both i' i k' k (λ p q. f (omega (arith, ap (declared_in x) p))) in
+          let b : get_or bases c.operation 0 ≡ declared_in x c.operation = based c.operation (result_counted x c.operation c.index h') in
+          let n : eqb c.operation i && eqb c.index k ≡ false = not_both c.operation i c.index k (λ p q. f (omega (arith, ap (declared_in x) p))) in
           rw n (get_or-set_other cells there (declared_in x i + k) number 0 f)
 
-      go : (t : Bool) → declared x i' k' ≡ t
-          → get_or (cond t (set cells there number) cells) (declared_in x i + k) 0 ≡ cond (eqb i' i && eqb k' k) number (get_or cells (declared_in x i + k) 0)
-      go true t = set_there (ltb-true k' (length (result_types x i')) t) (eqb (declared_in x i + k) there) refl
+      go : (t : Bool) → declared x c.operation c.index ≡ t
+          → get_or (cond t (set cells there number) cells) (declared_in x i + k) 0 ≡ cond (eqb c.operation i && eqb c.index k) number (get_or cells (declared_in x i + k) 0)
+      go true t = set_there (ltb-true c.index (length (result_types x c.operation)) t) (eqb (declared_in x i + k) there) refl
       go false t =
-          let n : eqb i' i && eqb k' k ≡ false = not_both i' i k' k (λ p q.
-          let g : length (result_types x i') ≤ k' = ltb-false k' (length (result_types x i')) t in
+          let n : eqb c.operation i && eqb c.index k ≡ false = not_both c.operation i c.index k (λ p q.
+          let g : length (result_types x c.operation) ≤ c.index = ltb-false c.index (length (result_types x c.operation)) t in
           omega (arith, ap (λ (j : ℕ). length (result_types x j)) p)) in
           rw n
 
@@ -169,13 +170,27 @@ module _ (x : Tables) (bases cells : List ℕ) (few : declared_in x x.counts.ope
       ∙ ap (λ (d : ℕ). number_or d (value_of x i k)) (zeros (declared_in x i + k) (result_before x i k x.counts.operations h (result_counted x i k h)))
       ∙ or_none (value_of x i k)
 
+-- the value that stands in a cell, by what the cell holds: `o` is the value that there is
+pub value_found : (o : Option ℕ) (n v : ℕ) → n ≡ number_of o → value_in n ≡ Some v → o ≡ some v
+value_found none n v e q =
+    absurd (let z : ◌≡◌ {A = std.Option ℕ} None (Some v) = sym (ap value_in e) ∙ q in let y : ◌≡◌ {A = ℕ} 0 1 = cc in omega arith)
+value_found (some w) n v e q =
+    let z : ◌≡◌ {A = std.Option ℕ} (Some w) (Some v) = sym (ap value_in (e ∙ add-one w)) ∙ q in
+    let y : w ≡ v = cc in
+    ap some y
+
+pub none_found : (o : Option ℕ) (n : ℕ) → n ≡ number_of o → value_in n ≡ None → o ≡ none
+none_found none n e q = refl
+none_found (some w) n e q =
+    absurd (let z : ◌≡◌ {A = std.Option ℕ} (Some w) None = sym (ap value_in (e ∙ add-one w)) ∙ q in let y : ◌≡◌ {A = ℕ} 0 1 = cc in omega arith)
+
 -- ---- where code 4 passes
 
 either : (a b : Bool) → a || b ≡ false → (a ≡ false) × (b ≡ false)
 either true b e = absurd (true≢false e)
 either false b e = (refl, e)
 
-pub claim_is : (i k : ℕ) (c : Claim) → c ≡ Result i k → is_claim i k c ≡ true
+pub claim_is : (i k : ℕ) (c : std.Option Claim) → c ≡ Some (record { operation = i; index = k }) → is_claim i k c ≡ true
 claim_is i k c e = rw (e, eq-eqb i i refl, eq-eqb k k refl)
 
 -- none of the values below v claims it
@@ -198,18 +213,18 @@ module _ (x : Tables) (passed : values_twice x ≡ Ok tt) where
   unfolding values_twice defined_twice
   not_twice v h = find_none (defined_twice x) 0 x.counts.values v (accepted _ passed) (omega arith) (omega arith)
 
-  once_listed : (v times : ℕ) (c : Claim) → twice_by x times v c ≡ false → times ≤ 1
-  once_listed v times Nothing e = ltb-false 1 times e
-  once_listed v times (Result i k) e = ltb-false 1 times (either (ltb 1 times) _ e).0
+  once_listed : (v times : ℕ) (c : std.Option Claim) → twice_by x times v c ≡ false → times ≤ 1
+  once_listed v times None e = ltb-false 1 times e
+  once_listed v times (Some c) e = ltb-false 1 times (either (ltb 1 times) _ e).0
 
-  module _ (v i k : ℕ) (h : v < x.counts.values) (e : claim x v ≡ Result i k) (d : declared x i k ≡ true) where
+  module _ (v i k : ℕ) (h : v < x.counts.values) (e : claim x v ≡ Some (record { operation = i; index = k })) (d : declared x i k ≡ true) where
     -- it is not listed, and no lower value claims the same
     alone : (ltb 0 (count v (all_arguments x)) ≡ false) × (claimed_below x i k v ≡ false)
     alone =
         let p = either (ltb 1 (count v (all_arguments x))) _ (rw e at (not_twice v h)) in
         either (ltb 0 (count v (all_arguments x))) (claimed_below x i k v) (rw d at p.1)
 
-  no_lower : (v w i k : ℕ) → w < x.counts.values → claim x v ≡ Result i k → claim x w ≡ Result i k → declared x i k ≡ true → v < w → ⊥
+  no_lower : (v w i k : ℕ) → w < x.counts.values → claim x v ≡ Some (record { operation = i; index = k }) → claim x w ≡ Some (record { operation = i; index = k }) → declared x i k ≡ true → v < w → ⊥
   no_lower v w i k h e e' d l =
       true≢false (sym (claim_is i k (claim x v) e) ∙ claimed_none x i k w (alone w i k h e' d).1 v l)
 
@@ -241,9 +256,10 @@ module _ (x : Tables) where
   claimed_bare i k zero = refl
   claimed_bare i k (suc v) = ap (λ (t : Bool). is_claim i k (claim x v) || t) (claimed_bare i k v)
 
-  twice_bare : (times v : ℕ) (c : Claim) → twice_by bare times v c ≡ twice_by x times v c
-  twice_bare times v Nothing = refl
-  twice_bare times v (Result i k) = ap (λ (t : Bool). ltb 1 times || (declared x i k && (ltb 0 times || t))) (claimed_bare i k v)
+  twice_bare : (times v : ℕ) (c : std.Option Claim) → twice_by bare times v c ≡ twice_by x times v c
+  twice_bare times v None = refl
+  twice_bare times v (Some c) =
+      ap (λ (t : Bool). ltb 1 times || (declared x c.operation c.index && (ltb 0 times || t))) (claimed_bare c.operation c.index v)
 
   pub bare_twice : values_twice (lent [] x.v x.o [] x.b [] [] x.l x.counts) ≡ values_twice x
   unfolding values_twice defined_twice

@@ -12,9 +12,9 @@ use Rattle.tables.specs.Sizes.{max_entries, max_values}
 use Rattle.tables.specs.Tables.{Tables, result_types, claim, declared}
 use Rattle.tables.specs.Value.{is_claim, value_of}
 use Rattle.tables.specs.declared.Claim.{Claim}
-use Rattle.tables.specs.declared.Claim.TheVariants.{Result, Nothing}
 use Rattle.tables.specs.Answer.{Answer}
-use Rattle.std.specs.Prelude.{Ok}
+use Rattle.std.specs.Prelude as std
+use Rattle.std.specs.Prelude.{Ok, Some, None}
 use Rattle.listed.specs.Marks.{mark_all}
 use Rattle.listed.proofs.Find.{find_same, find_at, find_low}
 use Rattle.listed.proofs.Marks.{cap, cap_once, cap_twice, mark_of}
@@ -53,16 +53,17 @@ number_tells x held i k v h e = go (claimed_below x i k v) refl
 module _ (x : Tables) (bases cells : List ℕ) (held : ℕ → ℕ → ℕ)
     (told : (i k : ℕ) → k < length (result_types x i) → get_or cells (get_or bases i 0 + k) 0 ≡ number_or (held i k) (value_of x i k))
     (v n : ℕ) (h : v < x.counts.values) where
-  seen_by : (c : Claim) → claim x v ≡ c → seen_twice (declared x) bases cells (cap n) (v + 1) c ≡ twice_by x n v c
+  seen_by : (c : std.Option Claim) → claim x v ≡ c → seen_twice (declared x) bases cells (cap n) (v + 1) c ≡ twice_by x n v c
   unfolding seen_twice
-  seen_by Nothing e = cap_twice n
-  seen_by (Result i k) e = go (declared x i k) refl
+  seen_by None e = cap_twice n
+  seen_by (Some c) e = go (declared x c.operation c.index) refl
     where
-      go : (t : Bool) → declared x i k ≡ t
-          → ltb 1 (cap n) || (t && (ltb 0 (cap n) || not (eqb (get_or cells (get_or bases i 0 + k) 0) (v + 1)))) ≡ ltb 1 n || (t && (ltb 0 n || claimed_below x i k v))
+      go : (t : Bool) → declared x c.operation c.index ≡ t
+          → ltb 1 (cap n) || (t && (ltb 0 (cap n) || not (eqb (get_or cells (get_or bases c.operation 0 + c.index) 0) (v + 1))))
+          ≡ ltb 1 n || (t && (ltb 0 n || claimed_below x c.operation c.index v))
       go true t =
-          let q = told i k (ltb-true k (length (result_types x i)) t) in
-          let m = number_tells x (held i k) i k v h (claim_is i k (claim x v) e) in
+          let q = told c.operation c.index (ltb-true c.index (length (result_types x c.operation)) t) in
+          let m = number_tells x (held c.operation c.index) c.operation c.index v h (claim_is c.operation c.index (claim x v) e) in
           rw (cap_twice n, cap_once n, q, m)
       go false t = rw (cap_twice n)
 

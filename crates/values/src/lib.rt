@@ -48,6 +48,7 @@ fn result_count(x: &Tables<'_>, operation: u64) -> u64
 }
 
 // Where the results of each operation start among all, and how many there are.
+#[tactic(auto, using(crate::proofs::Steps::base_step, crate::proofs::Steps::fill_step))]
 fn fill_bases(x: &Tables<'_>, bases: &mut [u64]) -> u64
     ensures total { result ≡ base_of x.now x.now.counts.operations }
     ensures written { bases.new ≡ bases_after x.now bases.old }
@@ -61,6 +62,7 @@ fn fill_bases(x: &Tables<'_>, bases: &mut [u64]) -> u64
 }
 
 // A number at the cell of the declared result that is claimed.
+#[tactic(auto, unfolding(crate::specs::Claims::put_claim))]
 fn put_claim(x: &Tables<'_>, bases: &[u64], claims: &mut [u64], number: u64, claim: Option<Claim>)
     ensures { claims.new ≡ put_claim (declared x.now) bases.now number claim claims.old }
 {
@@ -83,6 +85,7 @@ fn fill_claims(x: &Tables<'_>, bases: &[u64], claims: &mut [u64])
 }
 
 // Whether a value is defined twice that is listed so many times and claims what is said.
+#[tactic(auto, unfolding(crate::specs::Claims::seen_twice))]
 fn seen_twice(
     x: &Tables<'_>,
     claims: Claims<'_>,
@@ -90,7 +93,7 @@ fn seen_twice(
     number: u64,
     claim: Option<Claim>,
 ) -> bool
-    ensures { result ≡ seen_twice (declared x.now) claims.bases.now claims.claims.now times number claim }
+    ensures { result ≡ seen_twice (declared x.now) claims.entry.bases.now claims.entry.claims.now times number claim }
 {
     if 1 < times {
         return true;
@@ -108,8 +111,9 @@ fn seen_twice(
 }
 
 // The lowest value that is seen to be defined twice.
+#[tactic(auto, using(listed::proofs::Find::later_start, listed::proofs::Find::find_step, listed::proofs::Find::find_stop), unfolding(crate::specs::Claims::lowest_seen))]
 fn lowest_seen(x: &Tables<'_>, marks: &[u64], claims: Claims<'_>) -> Answer
-    ensures { result ≡ refused (lowest_seen x.now marks.now claims.bases.now claims.claims.now) }
+    ensures { result ≡ refused (lowest_seen x.now marks.now claims.entry.bases.now claims.entry.claims.now) }
 {
     for value in 0..x.counts().values {
         let times = cells::at(marks, value);
