@@ -1,4 +1,3 @@
-pub mod Steps
 pub mod Results
 pub mod Laws
 pub mod Seen

@@ -48,7 +48,6 @@ fn result_count(x: &Tables<'_>, operation: u64) -> u64
 }
 
 // Where the results of each operation start among all, and how many there are.
-#[tactic(auto, using(crate::proofs::Steps::base_step, crate::proofs::Steps::fill_step))]
 fn fill_bases(x: &Tables<'_>, bases: &mut [u64]) -> u64
     ensures total { result ≡ base_of x.now x.now.counts.operations }
     ensures written { bases.new ≡ bases_after x.now bases.old }
@@ -111,7 +110,7 @@ fn seen_twice(
 }
 
 // The lowest value that is seen to be defined twice.
-#[tactic(auto, using(listed::proofs::Find::later_start, listed::proofs::Find::find_step, listed::proofs::Find::find_stop), unfolding(crate::specs::Claims::lowest_seen))]
+#[tactic(auto, using(listed::proofs::Find::find_step), unfolding(crate::specs::Claims::lowest_seen))]
 fn lowest_seen(x: &Tables<'_>, marks: &[u64], claims: Claims<'_>) -> Answer
     ensures { result ≡ refused (lowest_seen x.now marks.now claims.entry.bases.now claims.entry.claims.now) }
 {
