@@ -20,19 +20,14 @@ pub fn unsigned(s: &[u8], max: u64) -> Option<u64>
     if s.is_empty() {
         return None;
     }
-    if s[0] == b'0' {
-        if 1 < s.len() {
-            return None;
-        }
+    if s[0] == b'0' && 1 < s.len() {
+        return None;
     }
     // Above a tenth of max no digit can follow, so that x * 10 does not wrap, and no turn divides.
     let tenth = max / 10;
     let mut x: u64 = 0;
     for &b in s {
-        if b < b'0' {
-            return None;
-        }
-        if b'9' < b {
+        if !b.is_ascii_digit() {
             return None;
         }
         if tenth < x {
@@ -82,10 +77,8 @@ pub fn unsigned_from(s: &[u8], start: u64, byte: u8, max: u64) -> Option<Taken>
     }
     if s[first] == b'0' {
         // No digit follows a first 0.
-        if first + 1 < n {
-            if s[first + 1] != byte {
-                return None;
-            }
+        if first + 1 < n && s[first + 1] != byte {
+            return None;
         }
         return Some(Taken {
             number: 0,
@@ -101,14 +94,11 @@ pub fn unsigned_from(s: &[u8], start: u64, byte: u8, max: u64) -> Option<Taken>
                 next: i as u64 + 1,
             });
         }
-        if b < b'0' {
-            return None;
-        }
-        if b'9' < b {
+        if !b.is_ascii_digit() {
             return None;
         }
         // Ten times as much would leave 64 bits.
-        if 1844674407370955161 < x {
+        if u64::MAX / 10 < x {
             return None;
         }
         let tens = x * 10;

@@ -15,13 +15,13 @@ ghost use Rattle.lines.specs.Answer.{bad_field, header_of, type_of, dim_width, v
 use fields::Taken;
 
 // The greatest id and the greatest number, and half of the numbers of 32 and of 64 bits.
-const MAX_ID: u64 = 4294967295;
+const MAX_ID: u64 = (1 << 32) - 1;
 
-const MAX_64: u64 = 18446744073709551615;
+const MAX_64: u64 = u64::MAX;
 
-const HALF_32: u64 = 2147483648;
+const HALF_32: u64 = 1 << 31;
 
-const HALF_64: u64 = 9223372036854775808;
+const HALF_64: u64 = 1 << 63;
 
 // The numbers that a field may hold: 0 to a bound, or as many below 0 as from 0 on, as two's complement bits.
 #[derive(Clone, Copy)]

@@ -74,18 +74,8 @@ pub fn store_function(line: &[u8], at: u64, n: u64, f: &mut [u32]) -> Result<u64
 fn has_room(at: u64, first: u64, second: u64, third: u64) -> bool
     ensures { result ≡ leb (at + (first + second + third)) 8192 }
 {
-    if tables::MAX_ENTRIES < at {
-        return false;
-    }
-    let room = tables::MAX_ENTRIES - at;
-    if room < first {
-        return false;
-    }
-    let rest = room - first;
-    if rest < second {
-        return false;
-    }
-    third <= rest - second
+    let lists = first.saturating_add(second).saturating_add(third);
+    at.saturating_add(lists) <= tables::MAX_ENTRIES
 }
 
 // The attributes from first on are to follow.

@@ -1,5 +1,5 @@
 -- `unsigned_from` meets its contract: the part from the cursor on makes of the value so far what the whole part is.
-use Prim.Native.Nat.{◌≤◌, ◌-◌}
+use Prim.Native.Nat.{◌≤◌}
 use mathlib.Core.Path.{◌≡◌}
 use lib.ListN.{length}
 use Rattle.fields.specs.Taken.{unsigned_from}
