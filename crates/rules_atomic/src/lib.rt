@@ -1,204 +1,132 @@
 // The rules of the two atomic operations on pointers.
-#![tactic(auto)]
+#![tactic(auto, unfolding(lookups::specs::Verdict::fail_if))]
 
 ghost use Rattle.std.specs.Prelude.{◌≡◌, drop};
-ghost use Rattle.rules_atomic.specs.Arm.{is_swap, takes_kind, is_mode, is_between, is_bad_swap, is_bad_mode, is_bad_order, any_wrong_mask, mask_start, is_bad_mask, atomic_by, atomic_in};
+ghost use Rattle.std.specs.List.{list_any};
+ghost use Rattle.tables.specs.Layout.{value_type_in};
+ghost use Rattle.tiles.specs.Tile.{tile_in};
+ghost use Rattle.tiles.specs.Rules.{is_wrong_mask};
+ghost use Rattle.rules_atomic.specs.Arm.{is_swap, is_mode, is_between, is_bad_swap, is_bad_mode, is_bad_order, mask_start, is_bad_mask, atomic_by, atomic_arm};
 
-use lookups::{Fault, Verdict};
-use tables::Counts;
+use lookups::{Verdict, fail_if};
+use tables::Tables;
 use tiles::Tile;
 
 pub const ATOMIC_CAS: u64 = 7;
 
 pub const ATOMIC_RMW: u64 = 8;
 
-fn is_swap(o: &[u32], n: Counts, operation: u64) -> bool
-    ensures { result ≡ is_swap o.now n operation }
+#[tactic(auto, unfolding(crate::specs::Arm::is_swap))]
+fn is_swap(x: &Tables<'_>, operation: u64) -> bool
+    ensures { result ≡ is_swap x.now.o x.now.counts operation }
 {
-    tables::opcode(o, n, operation) == ATOMIC_CAS
+    x.opcode(operation) == ATOMIC_CAS
 }
 
-// The sheet says that a mode takes this kind.
-fn takes_kind(sheet: &[u64], kind: u64, mode: u64) -> bool
-    ensures { result ≡ takes_kind sheet.now kind mode }
-{
-    if 16 <= kind {
-        return false;
-    }
-    (tables::mode_mask(sheet, mode) >> kind) % 2 == 1
-}
-
-// There is a mode, and it takes this kind.
+// There is a mode, and the sheet says that it takes this kind.
+#[tactic(auto, unfolding(crate::specs::Arm::is_mode, crate::specs::Arm::takes_kind, arith::specs::Bits::has_bit))]
 pub fn is_mode(sheet: &[u64], kind: u64, mode: Option<u64>) -> bool
     ensures { result ≡ is_mode sheet.now kind mode }
 {
-    match mode {
-        Some(bits) => takes_kind(sheet, kind, bits),
-        None => false,
-    }
+    mode.is_some_and(|m| arith::has_bit(16, tables::mode_mask(sheet, m), kind))
 }
 
+#[tactic(auto, unfolding(crate::specs::Arm::is_between))]
 fn is_between(low: u64, high: u64, found: Option<u64>) -> bool
     ensures { result ≡ is_between low high found }
 {
-    match found {
-        Some(bits) => (low <= bits) & (bits <= high),
-        None => false,
-    }
+    found.is_some_and(|m| low <= m && m <= high)
 }
 
-fn is_bad_swap(
-    t: &[u64],
-    v: &[u64],
-    o: &[u32],
-    l: &[u64],
-    sheet: &[u64],
-    n: Counts,
-    operation: u64,
-    val: Tile,
-) -> bool
-    ensures { result ≡ is_bad_swap t.now v.now o.now l.now sheet.now n operation val }
+#[tactic(auto, unfolding(crate::specs::Arm::is_bad_swap))]
+fn is_bad_swap(x: &Tables<'_>, sheet: &[u64], operation: u64, val: Tile) -> bool
+    ensures { result ≡ is_bad_swap x.now.t x.now.v x.now.o x.now.l sheet.now x.now.counts operation val }
 {
-    if !is_swap(o, n, operation) {
+    if !is_swap(x, operation) {
         return false;
     }
-    let other = lookups::operand_tile(t, v, o, l, sheet, n, operation, 2);
-    !tiles::same_tile(other, val) | !tiles::is_word(sheet, val.kind)
+    let other = lookups::operand_tile(x, sheet, operation, 2);
+    !tiles::same_tile(other, val) || !tiles::is_word(sheet, val.kind)
 }
 
-fn is_bad_mode(
-    o: &[u32],
-    a: &[u32],
-    l: &[u64],
-    sheet: &[u64],
-    n: Counts,
-    operation: u64,
-    val: Tile,
-) -> bool
-    ensures { result ≡ is_bad_mode o.now a.now l.now sheet.now n operation val }
+#[tactic(auto, unfolding(crate::specs::Arm::is_bad_mode))]
+fn is_bad_mode(x: &Tables<'_>, sheet: &[u64], operation: u64, val: Tile) -> bool
+    ensures { result ≡ is_bad_mode x.now.o x.now.a x.now.l sheet.now x.now.counts operation val }
 {
-    if is_swap(o, n, operation) {
+    if is_swap(x, operation) {
         return false;
     }
-    let mode = lookups::integer(o, a, l, n, operation, names::MODE);
-    !is_mode(sheet, val.kind, mode)
+    !is_mode(sheet, val.kind, lookups::integer(x, operation, names::MODE))
 }
 
-fn is_bad_order(o: &[u32], a: &[u32], l: &[u64], n: Counts, operation: u64) -> bool
-    ensures { result ≡ is_bad_order o.now a.now l.now n operation }
+#[tactic(auto, unfolding(crate::specs::Arm::is_bad_order))]
+fn is_bad_order(x: &Tables<'_>, operation: u64) -> bool
+    ensures { result ≡ is_bad_order x.now.o x.now.a x.now.l x.now.counts operation }
 {
-    let ordering = lookups::integer(o, a, l, n, operation, names::MEMORY_ORDERING_SEMANTICS);
-    let scope = lookups::integer(o, a, l, n, operation, names::MEMORY_SCOPE);
-    !is_between(1, 4, ordering) | !is_between(0, 2, scope)
+    let ordering = lookups::integer(x, operation, names::MEMORY_ORDERING_SEMANTICS);
+    let scope = lookups::integer(x, operation, names::MEMORY_SCOPE);
+    !is_between(1, 4, ordering) || !is_between(0, 2, scope)
+}
+
+// The value is a tile that is no mask for this one.
+#[tactic(auto, unfolding(tiles::specs::Tile::tile_in))]
+fn is_wrong(x: &Tables<'_>, sheet: &[u64], val: Tile, value: u64) -> bool
+    ensures { result ≡ is_wrong_mask (tile_in x.now.t sheet.now x.now.counts (value_type_in x.now.v x.now.counts value)) val }
+{
+    let row = tiles::seen_row(x, sheet, x.value_type(value));
+    tiles::is_wrong_mask(tiles::tile_of(row), val)
 }
 
 // From the first on, some operand is a tile that is no mask for the value.
-fn any_wrong_mask(
-    t: &[u64],
-    v: &[u64],
-    sheet: &[u64],
-    n: Counts,
-    val: Tile,
-    operands: &[u64],
-    first: u64,
-) -> bool
-    ensures { result ≡ any_wrong_mask t.now v.now sheet.now n val (drop first operands.now) }
+fn any_wrong(x: &Tables<'_>, sheet: &[u64], val: Tile, operands: &[u64], first: u64) -> bool
+    ensures { result ≡ list_any (λ v. is_wrong_mask (tile_in x.now.t sheet.now x.now.counts (value_type_in x.now.v x.now.counts v)) val) (drop first operands.now) }
 {
-    let mut k = first as usize;
-    while k < operands.len() {
-        let row = tiles::seen_row(t, sheet, n, tables::value_type(v, n, operands[k]));
-        if tiles::is_wrong_mask(tiles::tile_of(row), val) {
-            return true;
-        }
-        k += 1;
-    }
-    false
+    let mut masks = operands.iter().skip(first as usize);
+    masks.any(|value| is_wrong(x, sheet, val, *value))
 }
 
-fn mask_start(o: &[u32], n: Counts, operation: u64) -> u64
-    ensures { result ≡ mask_start o.now n operation }
+#[tactic(auto, unfolding(crate::specs::Arm::mask_start))]
+fn mask_start(x: &Tables<'_>, operation: u64) -> u64
+    ensures { result ≡ mask_start x.now.o x.now.counts operation }
 {
-    if is_swap(o, n, operation) {
-        return 3;
-    }
-    2
+    if is_swap(x, operation) { 3 } else { 2 }
 }
 
-fn is_bad_mask(
-    t: &[u64],
-    v: &[u64],
-    o: &[u32],
-    l: &[u64],
-    sheet: &[u64],
-    n: Counts,
-    operation: u64,
-    val: Tile,
-) -> bool
-    ensures { result ≡ is_bad_mask t.now v.now o.now l.now sheet.now n operation val }
+#[tactic(auto, using(crate::proofs::Masks::wrong_masks), unfolding(crate::specs::Arm::is_bad_mask))]
+fn is_bad_mask(x: &Tables<'_>, sheet: &[u64], operation: u64, val: Tile) -> bool
+    ensures { result ≡ is_bad_mask x.now.t x.now.v x.now.o x.now.l sheet.now x.now.counts operation val }
 {
-    let operands = tables::operands(o, l, n, operation);
-    let first = mask_start(o, n, operation);
-    any_wrong_mask(t, v, sheet, n, val, operands, first)
+    any_wrong(
+        x,
+        sheet,
+        val,
+        x.operands(operation),
+        mask_start(x, operation),
+    )
 }
 
 // The rule, on the tiles of the pointer, the value and the result.
-fn atomic(
-    t: &[u64],
-    v: &[u64],
-    o: &[u32],
-    a: &[u32],
-    l: &[u64],
-    sheet: &[u64],
-    n: Counts,
-    operation: u64,
-    ptr: Tile,
-    val: Tile,
-    res: Tile,
-) -> Verdict
-    ensures { result ≡ atomic_by t.now v.now o.now a.now l.now sheet.now n operation ptr val res }
+#[tactic(auto, unfolding(crate::specs::Arm::atomic_by, lookups::specs::Verdict::fail_if))]
+fn atomic(x: &Tables<'_>, sheet: &[u64], operation: u64, ptr: Tile, val: Tile, res: Tile) -> Verdict
+    ensures { result ≡ atomic_by x.now.t x.now.v x.now.o x.now.a x.now.l sheet.now x.now.counts operation ptr val res }
 {
-    if !tiles::is_tile(ptr) {
-        return Err(Fault::Broken(1));
-    }
-    if !tiles::is_tile(val) {
-        return Err(Fault::Broken(2));
-    }
-    if !tiles::is_number(val) {
-        return Err(Fault::Broken(3));
-    }
-    if tiles::atomic_differs(ptr, val, res) {
-        return Err(Fault::Broken(4));
-    }
-    if is_bad_swap(t, v, o, l, sheet, n, operation, val) {
-        return Err(Fault::Broken(5));
-    }
-    if is_bad_mode(o, a, l, sheet, n, operation, val) {
-        return Err(Fault::Broken(6));
-    }
-    if is_bad_order(o, a, l, n, operation) {
-        return Err(Fault::Broken(7));
-    }
-    if is_bad_mask(t, v, o, l, sheet, n, operation, val) {
-        return Err(Fault::Broken(8));
-    }
-    Ok(())
+    fail_if(!tiles::is_tile(ptr), 1)?;
+    fail_if(!tiles::is_tile(val), 2)?;
+    fail_if(!tiles::is_number(val), 3)?;
+    fail_if(tiles::atomic_differs(ptr, val, res), 4)?;
+    fail_if(is_bad_swap(x, sheet, operation, val), 5)?;
+    fail_if(is_bad_mode(x, sheet, operation, val), 6)?;
+    fail_if(is_bad_order(x, operation), 7)?;
+    fail_if(is_bad_mask(x, sheet, operation, val), 8)
 }
 
 // The rule of an atomic operation.
-pub fn atomic_arm(
-    t: &[u64],
-    v: &[u64],
-    o: &[u32],
-    a: &[u32],
-    l: &[u64],
-    sheet: &[u64],
-    n: Counts,
-    operation: u64,
-) -> Verdict
-    ensures { result ≡ atomic_in t.now v.now o.now a.now l.now sheet.now n operation }
+#[tactic(auto, unfolding(crate::specs::Arm::atomic_in))]
+pub fn atomic_arm(x: &Tables<'_>, sheet: &[u64], operation: u64) -> Verdict
+    ensures { result ≡ atomic_arm sheet.now x.now operation }
 {
-    let ptr = lookups::operand_tile(t, v, o, l, sheet, n, operation, 0);
-    let val = lookups::operand_tile(t, v, o, l, sheet, n, operation, 1);
-    let result = lookups::result_tile(t, o, l, sheet, n, operation);
-    atomic(t, v, o, a, l, sheet, n, operation, ptr, val, result)
+    let ptr = lookups::operand_tile(x, sheet, operation, 0);
+    let val = lookups::operand_tile(x, sheet, operation, 1);
+    let result = lookups::result_tile(x, sheet, operation);
+    atomic(x, sheet, operation, ptr, val, result)
 }
