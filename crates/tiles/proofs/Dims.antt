@@ -17,16 +17,6 @@ pub rank_is : (t : Tile) → length t.dims ≡ 8 → rank_of t ≡ min t.rank 8
 unfolding rank_of dims_of
 rank_is t e = simp (length-take, e)
 
-pub dim_is : (t : Tile) (i : ℕ) → i < rank_of t → dim_of t i ≡ get_or t.dims i (pos 0)
-unfolding rank_of dims_of dim_of
-dim_is t i h =
-    let l = simp length-take at h in
-    get_or-take t.rank t.dims i (pos 0) (omega (arith, l))
-
-pub dim_past : (t : Tile) (i : ℕ) → rank_of t ≤ i → dim_of t i ≡ pos 0
-unfolding rank_of dim_of
-dim_past t i h = get_or-eq_default (dims_of t) (pos 0) h
-
 -- as many as count, from the front
 pub first_dims : (t : Tile) (n : ℕ) → n ≡ min t.rank (length t.dims) → take n t.dims ≡ dims_of t
 unfolding dims_of
@@ -34,15 +24,6 @@ first_dims t n e = ⊎_elim
     (λ h. let q : n ≡ t.rank = omega arith in ap (λ (k : ℕ). take k t.dims) q)
     (λ h. take_all n t.dims (omega arith) ∙ sym (take_all t.rank t.dims h))
     (lt_or_ge t.rank (length t.dims))
-
--- a list that is filled from the front, one store a turn
-pub fill_step : (xs : List ℤ) (i : ℕ) (v : ℤ) (f : ℕ → ℤ) → i < length xs → ((k : ℕ) → k < i → get_or xs k (pos 0) ≡ f k) → v ≡ f i → (k : ℕ) → k < i + 1 → get_or (set xs i v) k (pos 0) ≡ f k
-fill_step xs i v f l below e k h =
-    let b : k ≤ i = omega arith in
-    ⊎_elim
-    (λ q. rw q (get_or-set_same xs i v (pos 0) l ∙ e))
-    (λ q. get_or-set_other xs i k v (pos 0) (omega arith) ∙ below k q)
-    (eq-or-lt_of_le b)
 
 zeros_at : (n k : ℕ) → get_or (replicate n (pos 0)) k (pos 0) ≡ pos 0
 zeros_at zero k = refl

@@ -75,12 +75,3 @@ module _ (s l : ℤ) where
       by : (b : Bool) → cond b (Some (rem_z l s)) None ≡ None → (not b || not (eq_z (rem_z l s) (pos 0))) ≡ true
       by true e = let z : ◌≡◌ {A = ℕ} 0 1 = cc in absurd (omega arith)
       by false e = refl
-
-twice_not : (b : Bool) → not (not b) ≡ b
-twice_not true = refl
-twice_not false = refl
-
--- eight divides: no remainder is left
-pub by_eight : (n : ℤ) → not (undivided_by (pos 8) n) ≡ eq_z (rem_z n (pos 8)) (pos 0)
-unfolding undivided_by
-by_eight n = twice_not (eq_z (rem_z n (pos 8)) (pos 0))

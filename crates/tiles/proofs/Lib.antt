@@ -1,9 +1,6 @@
-pub mod Elements
 pub mod Equal
 pub mod Pairs
-pub mod Scalars
 pub mod Dims
-pub mod Widths
 pub mod Groups
 pub mod Axes
 pub mod Laws

@@ -2,7 +2,7 @@
 // are joined by `&` and `|`: no part has to be asked first.
 #![tactic(auto, unfolding(crate::specs::Kind::is_integer, crate::specs::Kind::bits_in, crate::specs::Tile::no_tile, crate::specs::Tile::row_tile, crate::specs::Tile::is_tile, crate::specs::Tile::is_number, crate::specs::Tile::is_pointer, crate::specs::Tile::scalar_of, crate::specs::Tile::has_kind, crate::specs::Tile::same_scalar, crate::specs::Tile::same_element, crate::specs::Tile::points_to, crate::specs::Tile::is_integers, crate::specs::Tile::is_integers_or_pointers, crate::specs::Shape::same_dim, crate::specs::Shape::same_rank, crate::specs::Shape::same_shape, crate::specs::Shape::same_tile, crate::specs::Shape::undivided_by, crate::specs::Shape::is_uneven, crate::specs::Shape::stretches_to, crate::specs::Shape::is_stretched, crate::specs::Shape::quotient_of, crate::specs::Shape::count_of, crate::specs::Rules::same_bits, crate::specs::Rules::is_bitcast, crate::specs::Rules::is_reshape, crate::specs::Rules::is_broadcast, crate::specs::Rules::is_permutation, crate::specs::Rules::is_permuted, crate::specs::Rules::is_packable, crate::specs::Rules::bit_count_of, crate::specs::Rules::is_packed, crate::specs::Rules::atomic_differs, crate::specs::Rules::is_word, crate::specs::Rules::is_wrong_mask, crate::specs::Rules::outside_dim, crate::specs::Rules::is_group_outside, crate::specs::Rules::is_groups_outside, crate::specs::Rules::is_power_base, crate::specs::Rules::is_power_exponent, crate::specs::Rules::is_no_part, crate::specs::Rules::is_index, crate::specs::Rules::is_axis_index, crate::specs::Mma::row_of, crate::specs::Mma::column_of, crate::specs::Mma::mma_ranks_differ, crate::specs::Mma::mma_dims_differ, crate::specs::Mma::is_mma_pair, crate::specs::Mma::is_mma_kinds, crate::specs::Mma::scale_ranks_differ, crate::specs::Mma::scale_dims_differ, crate::specs::Mma::vector_of, crate::specs::Mma::is_scaled, crate::specs::Mma::is_scale_kinds))]
 
-ghost use Rattle.std.specs.Prelude.{◌≡◌, not, ◌||◌, map, drop};
+ghost use Rattle.std.specs.Prelude.{◌≡◌, not, ◌||◌, map};
 ghost use Rattle.arith.specs.Signed.{signed_of};
 ghost use Rattle.cells.specs.Lists.{mem};
 ghost use Rattle.tiles.specs.Kind.{is_integer, bits_in};
@@ -11,7 +11,6 @@ ghost use Rattle.tiles.specs.Shape.{eq_z, any_pair, all_pairs, same_dim, same_ra
 ghost use Rattle.tiles.specs.Rules.{same_bits, is_bitcast, is_reshape, is_broadcast, has_axes, is_permutation, moved_from, is_permuted, is_packable, bit_count_of, in_bytes, is_packed, atomic_differs, is_word, is_wrong_mask, outside_dim, is_group_outside, is_groups_outside, is_power_base, is_power_exponent, is_no_part, is_index, is_axis_index};
 ghost use Rattle.tiles.specs.Mma.{row_of, column_of, mma_ranks_differ, mma_dims_differ, is_mma_pair, is_mma_kinds, scale_ranks_differ, scale_dims_differ, vector_of, is_scaled, is_scale_kinds};
 
-use cells::Span;
 use tables::Tables;
 
 // The kinds of elements.
@@ -78,52 +77,18 @@ fn eight(bits: &[u64]) -> [i64; 8]
     dims
 }
 
-// The eight dims of a type's cells, with 0 where there are none. Whole cells are copied as they stand.
-fn row_dims(row: &[u64]) -> [i64; 8]
-    ensures { result ≡ eight_of (drop 8 row.now) }
-{
-    if row.len() < 16 {
-        return eight(cells::entries(row, Span { start: 8, len: 8 }));
-    }
-    let mut dims = [0; 8];
-    for i in 0..8 {
-        dims[i] = arith::signed(row[8 + i]);
-    }
-    dims
-}
-
-// The kind and dims of cells that are too few for a type, as a tile of this form; none at all are no tile.
-fn cut_tile(form: u64, row: &[u64]) -> Tile
-    ensures { result ≡ row_tile form row.now }
-{
-    let kind = cells::at(row, 1);
-    let dims = row_dims(row);
-    let rank = cells::at(row, 5)
-        .min(tables::MAX_RANK)
-        .min((row.len() as u64).saturating_sub(8));
-    Tile {
-        form,
-        kind,
-        rank,
-        dims,
-    }
-}
-
-// The kind and dims of a type's cells, as a tile of this form. Whole cells are the common case, read without a test each.
+// The kind and dims of a type's cells, as a tile of this form; none at all are no tile.
 fn row_tile(form: u64, row: &[u64]) -> Tile
     ensures { result ≡ row_tile form row.now }
 {
-    if row.len() < 16 {
-        return cut_tile(form, row);
-    }
-    let kind = row[1];
-    let rank = row[5].min(tables::MAX_RANK);
-    let dims = row_dims(row);
+    let dims = row.get(8..).unwrap_or(&[]);
     Tile {
         form,
-        kind,
-        rank,
-        dims,
+        kind: cells::at(row, 1),
+        rank: cells::at(row, 5)
+            .min(tables::MAX_RANK)
+            .min(dims.len() as u64),
+        dims: eight(dims),
     }
 }
 
@@ -581,25 +546,16 @@ pub fn mma_ranks_differ(a: Tile, b: Tile, c: Tile, res: Tile) -> bool
     !((n == 2) | (n == 3)) | !same_rank(b, a) | !same_rank(c, a) | !same_tile(res, c)
 }
 
-// M, N or K differ, where these are the last dim but one and the last.
-fn dims_differ(a: Tile, b: Tile, c: Tile, i: u64, j: u64) -> bool
-    ensures { result ≡ (not (same_dim a i c i) || not (same_dim b j c j) || not (same_dim a j b i)) }
-{
-    !same_dim(a, i, c, i) | !same_dim(b, j, c, j) | !same_dim(a, j, b, i)
-}
-
-// The ranks that pass have places of their own: a dim at a known place is read without a copy of the tile.
+// M, N, K or the batch differ.
 pub fn mma_dims_differ(a: Tile, b: Tile, c: Tile) -> bool
     ensures { result ≡ mma_dims_differ a b c }
 {
-    let n = rank(a);
-    if n == 2 {
-        return dims_differ(a, b, c, 0, 1);
-    }
-    if n == 3 {
-        return dims_differ(a, b, c, 1, 2) | (!same_dim(a, 0, b, 0) | !same_dim(a, 0, c, 0));
-    }
-    dims_differ(a, b, c, row(a), column(a))
+    let i = row(a);
+    let j = column(a);
+    !same_dim(a, i, c, i)
+        | !same_dim(b, j, c, j)
+        | !same_dim(a, j, b, i)
+        | ((rank(a) == 3) & (!same_dim(a, 0, b, 0) | !same_dim(a, 0, c, 0)))
 }
 
 // The accumulators that MmaF takes for an input.
