@@ -82,14 +82,12 @@ fn first_number(x: &Tables<'_>, attribute: u64) -> u64
 fn is_entry(x: &Tables<'_>, attribute: u64, name: u64, wanted: Wanted) -> bool
     ensures { result ≡ is_entry x.now.a x.now.l x.now.counts name wanted attribute }
 {
-    if x.attribute_name(attribute) != name {
-        return false;
-    }
-    is_taken(
-        wanted,
-        x.attribute_form(attribute),
-        first_number(x, attribute),
-    )
+    x.attribute_name(attribute) == name
+        && is_taken(
+            wanted,
+            x.attribute_form(attribute),
+            first_number(x, attribute),
+        )
 }
 
 // The first attribute of an operation with this name that is as wanted.

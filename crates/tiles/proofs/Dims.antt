@@ -2,15 +2,14 @@
 use mathlib.Core.Path.{◌≡◌, refl, sym, ap, ◌∙◌}
 use mathlib.Core.List.{List, [], ◌∷◌, ◌++◌, map}
 use mathlib.Core.Logic.{⊎_elim}
-use Prim.Native.Nat.{ℕ, zero, suc, ◌+◌, ◌≤◌, ◌<◌, min}
-use native.Mathlib.Nat.{eq-or-lt_of_le}
+use Prim.Native.Nat.{ℕ, zero, suc, ◌<◌, min}
 use native.Mathlib.Omega.{arith}
 use lib.IntN.{ℤ, pos}
-use lib.ListN.{length, get_or, set, take, replicate, length-append, length-take, length-map, length-replicate, get_or-map, get_or-eq_default}
-use lib.Seq.{get_or-take, get_or-set_same, get_or-set_other, ext_get_or, take_all}
+use lib.ListN.{length, get_or, take, replicate, length-append, length-take, length-map, length-replicate, get_or-map}
+use lib.Seq.{get_or-take, ext_get_or, take_all}
 use Rattle.cells.proofs.Rows.{lt_or_ge}
 use Rattle.arith.specs.Signed.{signed_of}
-use Rattle.tiles.specs.Tile.{eight_of, dims_of, rank_of, dim_of}
+use Rattle.tiles.specs.Tile.{eight_of, dims_of, rank_of}
 use Rattle.tiles.specs.declared.Tile.{Tile}
 
 pub rank_is : (t : Tile) → length t.dims ≡ 8 → rank_of t ≡ min t.rank 8
