@@ -26,11 +26,14 @@ use Rattle.stores.specs.Rows.{type_cells, value_cells, operation_cells, attribut
 use Rattle.stores.specs.Store.{type_store, value_store, function_store, Both, both, operation_row, operation_store, attribute_row, attribute_store, block_row, block_store, region_row, region_store, one_attribute_more}
 use Rattle.house.specs.State.{State}
 use Rattle.house.specs.House.{no_counts, zeros, zeroed, refuse, taken, counts, or_size, read, take_header, take_type, take_value, take_operation, take_attribute, take_block, take_region, take_function, Tag, header, type, value, operation, attribute, block, region, function, unknown, tag_of, fields_of, in_order, take_line, well_placed, placed, too_far, judged, onward, line_of}
-use Rattle.house.specs.Step.{tag_number, tag_at, kind_of, next, refusing, count_of, counted, phase_of, advance_of, header_next, state_of, settled_by, settled}
+use Rattle.house.specs.Step.{kind_at, tag_in, fits, kind_by, kind_of, next, first_reading, refusing, table_of, count_of, counted, phase_of, advance_of, header_next, state_of, settled_by, settled}
+use Rattle.lines.specs.declared.BadField.{BadField}
+use Rattle.lines.specs.Answer.{bad_field}
+use Rattle.house.specs.declared.Kind.{Kind}
+use Rattle.house.specs.declared.Kind.TheVariants.{Header, «Type», Value, Operation, Attribute, Block, Region, Function}
 use Rattle.house.specs.declared.Reading.{Reading}
 use Rattle.stores.specs.declared.Unstored.{Unstored}
 use Rattle.stores.specs.declared.Unstored.TheVariants.{Bad, Full}
-use Rattle.stores.proofs.Stores.{impossible}
 
 next_is : (x : ℕ) → x < 2 ^ 32 → next x ≡ suc x
 next_is x h = rw (lt-ltb x (2 ^ 32) h)
@@ -42,7 +45,7 @@ module _ (s s' : Reading) (x x' : Tables) where
       ap (λ (y : Reading). settled (state_of y x')) e
       ∙ ap (λ (y : Tables). record { phase = 0; lines = 0; bytes = 0; entries = 0; version = 0; sm = 0; tables = y; answer = Err q }) z
 
-  module _ (k end : ℕ) where
+  module _ (k : Kind) (end : ℕ) where
     pub settled_bad : (field : ℕ) → s' ≡ advance_of s k end (Err (Bad field)) → s.lines < 2 ^ 32 → zeroed x' ≡ zeroed x
         → settled (state_of s' x') ≡ refuse (NotInForm (suc s.lines) field) (state_of s x)
     unfolding advance_of
@@ -50,9 +53,9 @@ module _ (s s' : Reading) (x x' : Tables) where
         settled_refused (NotInForm (suc s.lines) field) (e ∙ ap (λ (n : ℕ). refusing (NotInForm n field)) (next_is s.lines h)) z
 
     settled_full : s' ≡ advance_of s k end (Err Full) → zeroed x' ≡ zeroed x
-        → settled (state_of s' x') ≡ refuse (OutOfRange k (count_of s.counts k)) (state_of s x)
+        → settled (state_of s' x') ≡ refuse (OutOfRange (table_of k) (count_of s.counts k)) (state_of s x)
     unfolding advance_of
-    settled_full e z = settled_refused (OutOfRange k (count_of s.counts k)) e z
+    settled_full e z = settled_refused (OutOfRange (table_of k) (count_of s.counts k)) e z
 
     settled_taken : (entries more : ℕ) (n : Counts) → s' ≡ advance_of s k end (Ok entries) → s.lines < 2 ^ 32 → entries ≡ s.entries + more
         → counted s.counts k ≡ n
@@ -70,11 +73,11 @@ module _ (s s' : Reading) (x x' : Tables) where
 
 both_true : (t u : Bool) → t && u ≡ true → t ≡ true
 both_true true u e = refl
-both_true false u e = impossible (cc)
+both_true false u e = cc
 
 -- ---- `T`
 module _ (s s' : Reading) (end : ℕ) (t v o a b r f l : List ℕ) (fs : List (List ℕ)) (h : s.lines < 2 ^ 32) (step : Result ℕ Unstored) (t' : List ℕ)
-    (e : left step t' ≡ type_store s.entries s.counts.types (type_line fs) t) (es : s' ≡ advance_of s 1 end step) where
+    (e : left step t' ≡ type_store s.entries s.counts.types (type_line fs) t) (es : s' ≡ advance_of s «Type» end step) where
   pub took_type_lem : settled (state_of s' (lent t' v o a b r f l no_counts)) ≡ take_line (state_of s (lent t v o a b r f l no_counts)) end fs type
   unfolding type_store
   took_type_lem = by (type_line fs) e
@@ -97,25 +100,25 @@ module _ (s s' : Reading) (end : ℕ) (t v o a b r f l : List ℕ) (fs : List (L
       room true w q d =
           let st : step ≡ Ok s.entries = ap (λ (y : Left (Result ℕ Unstored)). y.answer) d in
           let tb : t' ≡ sets t (s.counts.types * 16) (type_cells w) = ap (λ (y : Left (Result ℕ Unstored)). y.entries) d in
-          settled_taken s s' x x' 1 end s.entries 0 (counts (suc s.counts.types) s.counts.values s.counts.operations s.counts.attributes s.counts.blocks s.counts.regions s.counts.functions) (es ∙ ap (advance_of s 1 end) st) h (omega arith)
+          settled_taken s s' x x' «Type» end s.entries 0 (counts (suc s.counts.types) s.counts.values s.counts.operations s.counts.attributes s.counts.blocks s.counts.regions s.counts.functions) (es ∙ ap (advance_of s «Type» end) st) h (omega arith)
           (ap (λ (m : ℕ). counts m s.counts.values s.counts.operations s.counts.attributes s.counts.blocks s.counts.regions s.counts.functions) (next_is s.counts.types (small w q)))
           ∙ ap (λ (y : List ℕ). taken (state_of s x) 1 end 0 (lent y v o a b r f l (counts (suc s.counts.types) s.counts.values s.counts.operations s.counts.attributes s.counts.blocks s.counts.regions s.counts.functions))) tb
       room false w q d =
           let st : step ≡ Err Full = ap (λ (y : Left (Result ℕ Unstored)). y.answer) d in
           let tb : t' ≡ t = ap (λ (y : Left (Result ℕ Unstored)). y.entries) d in
-          settled_full s s' x x' 1 end (es ∙ ap (advance_of s 1 end) st) (long (ap length tb))
+          settled_full s s' x x' «Type» end (es ∙ ap (advance_of s «Type» end) st) (long (ap length tb))
 
       by : (y : Read TypeRow) → left step t' ≡ type_store s.entries s.counts.types y t
           → settled (state_of s' x') ≡ read (state_of s x) y (take_type (state_of s x) end)
       by (bad k) d =
           let st : step ≡ Err (Bad k) = ap (λ (y : Left (Result ℕ Unstored)). y.answer) d in
           let tb : t' ≡ t = ap (λ (y : Left (Result ℕ Unstored)). y.entries) d in
-          settled_bad s s' x x' 1 end k (es ∙ ap (advance_of s 1 end) st) h (long (ap length tb))
+          settled_bad s s' x x' «Type» end k (es ∙ ap (advance_of s «Type» end) st) h (long (ap length tb))
       by (says w) d = room (ltb s.counts.types 1024 && leb (length w.dims) 8) w refl d
 
 -- ---- `V`
 module _ (s s' : Reading) (end : ℕ) (t v o a b r f l : List ℕ) (fs : List (List ℕ)) (h : s.lines < 2 ^ 32) (step : Result ℕ Unstored) (v' : List ℕ)
-    (e : left step v' ≡ value_store s.entries s.counts.values (value_line fs) v) (es : s' ≡ advance_of s 2 end step) where
+    (e : left step v' ≡ value_store s.entries s.counts.values (value_line fs) v) (es : s' ≡ advance_of s Value end step) where
   pub took_value_lem : settled (state_of s' (lent t v' o a b r f l no_counts)) ≡ take_line (state_of s (lent t v o a b r f l no_counts)) end fs value
   unfolding value_store
   took_value_lem = by (value_line fs) e
@@ -138,25 +141,25 @@ module _ (s s' : Reading) (end : ℕ) (t v o a b r f l : List ℕ) (fs : List (L
       room true w q d =
           let st : step ≡ Ok s.entries = ap (λ (y : Left (Result ℕ Unstored)). y.answer) d in
           let tb : v' ≡ sets v (s.counts.values * 4) (value_cells w) = ap (λ (y : Left (Result ℕ Unstored)). y.entries) d in
-          settled_taken s s' x x' 2 end s.entries 0 (counts s.counts.types (suc s.counts.values) s.counts.operations s.counts.attributes s.counts.blocks s.counts.regions s.counts.functions) (es ∙ ap (advance_of s 2 end) st) h (omega arith)
+          settled_taken s s' x x' Value end s.entries 0 (counts s.counts.types (suc s.counts.values) s.counts.operations s.counts.attributes s.counts.blocks s.counts.regions s.counts.functions) (es ∙ ap (advance_of s Value end) st) h (omega arith)
           (ap (λ (m : ℕ). counts s.counts.types m s.counts.operations s.counts.attributes s.counts.blocks s.counts.regions s.counts.functions) (next_is s.counts.values (small w q)))
           ∙ ap (λ (y : List ℕ). taken (state_of s x) 2 end 0 (lent t y o a b r f l (counts s.counts.types (suc s.counts.values) s.counts.operations s.counts.attributes s.counts.blocks s.counts.regions s.counts.functions))) tb
       room false w q d =
           let st : step ≡ Err Full = ap (λ (y : Left (Result ℕ Unstored)). y.answer) d in
           let tb : v' ≡ v = ap (λ (y : Left (Result ℕ Unstored)). y.entries) d in
-          settled_full s s' x x' 2 end (es ∙ ap (advance_of s 2 end) st) (long (ap length tb))
+          settled_full s s' x x' Value end (es ∙ ap (advance_of s Value end) st) (long (ap length tb))
 
       by : (y : Read ValueRow) → left step v' ≡ value_store s.entries s.counts.values y v
           → settled (state_of s' x') ≡ read (state_of s x) y (take_value (state_of s x) end)
       by (bad k) d =
           let st : step ≡ Err (Bad k) = ap (λ (y : Left (Result ℕ Unstored)). y.answer) d in
           let tb : v' ≡ v = ap (λ (y : Left (Result ℕ Unstored)). y.entries) d in
-          settled_bad s s' x x' 2 end k (es ∙ ap (advance_of s 2 end) st) h (long (ap length tb))
+          settled_bad s s' x x' Value end k (es ∙ ap (advance_of s Value end) st) h (long (ap length tb))
       by (says w) d = room (ltb s.counts.values 4096) w refl d
 
 -- ---- `F`
 module _ (s s' : Reading) (end : ℕ) (t v o a b r f l : List ℕ) (fs : List (List ℕ)) (h : s.lines < 2 ^ 32) (step : Result ℕ Unstored) (f' : List ℕ)
-    (e : left step f' ≡ function_store s.entries s.counts.functions (function_line fs) f) (es : s' ≡ advance_of s 7 end step) where
+    (e : left step f' ≡ function_store s.entries s.counts.functions (function_line fs) f) (es : s' ≡ advance_of s Function end step) where
   pub took_function_lem : settled (state_of s' (lent t v o a b r f' l no_counts)) ≡ take_line (state_of s (lent t v o a b r f l no_counts)) end fs function
   unfolding function_store
   took_function_lem = by (function_line fs) e
@@ -179,25 +182,25 @@ module _ (s s' : Reading) (end : ℕ) (t v o a b r f l : List ℕ) (fs : List (L
       room true w q d =
           let st : step ≡ Ok s.entries = ap (λ (y : Left (Result ℕ Unstored)). y.answer) d in
           let tb : f' ≡ set f s.counts.functions w = ap (λ (y : Left (Result ℕ Unstored)). y.entries) d in
-          settled_taken s s' x x' 7 end s.entries 0 (counts s.counts.types s.counts.values s.counts.operations s.counts.attributes s.counts.blocks s.counts.regions (suc s.counts.functions)) (es ∙ ap (advance_of s 7 end) st) h (omega arith)
+          settled_taken s s' x x' Function end s.entries 0 (counts s.counts.types s.counts.values s.counts.operations s.counts.attributes s.counts.blocks s.counts.regions (suc s.counts.functions)) (es ∙ ap (advance_of s Function end) st) h (omega arith)
           (ap (λ (m : ℕ). counts s.counts.types s.counts.values s.counts.operations s.counts.attributes s.counts.blocks s.counts.regions m) (next_is s.counts.functions (small w q)))
           ∙ ap (λ (y : List ℕ). taken (state_of s x) 6 end 0 (lent t v o a b r y l (counts s.counts.types s.counts.values s.counts.operations s.counts.attributes s.counts.blocks s.counts.regions (suc s.counts.functions)))) tb
       room false w q d =
           let st : step ≡ Err Full = ap (λ (y : Left (Result ℕ Unstored)). y.answer) d in
           let tb : f' ≡ f = ap (λ (y : Left (Result ℕ Unstored)). y.entries) d in
-          settled_full s s' x x' 7 end (es ∙ ap (advance_of s 7 end) st) (long (ap length tb))
+          settled_full s s' x x' Function end (es ∙ ap (advance_of s Function end) st) (long (ap length tb))
 
       by : (y : Read ℕ) → left step f' ≡ function_store s.entries s.counts.functions y f
           → settled (state_of s' x') ≡ read (state_of s x) y (take_function (state_of s x) end)
       by (bad k) d =
           let st : step ≡ Err (Bad k) = ap (λ (y : Left (Result ℕ Unstored)). y.answer) d in
           let tb : f' ≡ f = ap (λ (y : Left (Result ℕ Unstored)). y.entries) d in
-          settled_bad s s' x x' 7 end k (es ∙ ap (advance_of s 7 end) st) h (long (ap length tb))
+          settled_bad s s' x x' Function end k (es ∙ ap (advance_of s Function end) st) h (long (ap length tb))
       by (says w) d = room (ltb s.counts.functions 64) w refl d
 
 -- ---- `R`
 module _ (s s' : Reading) (end : ℕ) (t v o a b r f l : List ℕ) (fs : List (List ℕ)) (h : s.lines < 2 ^ 32) (step : Result ℕ Unstored) (r' l' : List ℕ)
-    (e : both step r' l' ≡ region_store s.entries s.counts.regions fs r l) (es : s' ≡ advance_of s 6 end step) where
+    (e : both step r' l' ≡ region_store s.entries s.counts.regions fs r l) (es : s' ≡ advance_of s Region end step) where
   pub took_region_lem : settled (state_of s' (lent t v o a b r' f l' no_counts)) ≡ take_line (state_of s (lent t v o a b r f l no_counts)) end fs region
   unfolding region_store
   took_region_lem = by (region_line fs) refl e
@@ -221,23 +224,23 @@ module _ (s s' : Reading) (end : ℕ) (t v o a b r f l : List ℕ) (fs : List (L
           let st : step ≡ Ok (s.entries + length w) = ap (λ (y : Both). y.answer) d in
           let tb : r' ≡ sets r (s.counts.regions * 2) (region_cells s.entries w) = ap (λ (y : Both). y.table) d in
           let lb : l' ≡ sets l s.entries (w) = ap (λ (y : Both). y.entries) d ∙ ap (sets l s.entries) (region_says fs w p) in
-          settled_taken s s' x x' 6 end (s.entries + length w) (length w) (counts s.counts.types s.counts.values s.counts.operations s.counts.attributes s.counts.blocks (suc s.counts.regions) s.counts.functions) (es ∙ ap (advance_of s 6 end) st) h refl
+          settled_taken s s' x x' Region end (s.entries + length w) (length w) (counts s.counts.types s.counts.values s.counts.operations s.counts.attributes s.counts.blocks (suc s.counts.regions) s.counts.functions) (es ∙ ap (advance_of s Region end) st) h refl
           (ap (λ (m : ℕ). counts s.counts.types s.counts.values s.counts.operations s.counts.attributes s.counts.blocks m s.counts.functions) (next_is s.counts.regions (small w q)))
           ∙ ap (λ (y : List ℕ). taken (state_of s x) 5 end (length w) (lent t v o a b y f l' (counts s.counts.types s.counts.values s.counts.operations s.counts.attributes s.counts.blocks (suc s.counts.regions) s.counts.functions))) tb
           ∙ ap (λ (y : List ℕ). taken (state_of s x) 5 end (length w) (lent t v o a b (sets r (s.counts.regions * 2) (region_cells s.entries w)) f y (counts s.counts.types s.counts.values s.counts.operations s.counts.attributes s.counts.blocks (suc s.counts.regions) s.counts.functions))) lb
       room false w p q d =
           let st : step ≡ Err Full = ap (λ (y : Both). y.answer) d in
-          settled_full s s' x x' 6 end (es ∙ ap (advance_of s 6 end) st) (long (ap (λ (y : Both). length y.table) d) (ap (λ (y : Both). length y.entries) d ∙ length-sets l s.entries (region_numbers fs)))
+          settled_full s s' x x' Region end (es ∙ ap (advance_of s Region end) st) (long (ap (λ (y : Both). length y.table) d) (ap (λ (y : Both). length y.entries) d ∙ length-sets l s.entries (region_numbers fs)))
 
       by : (y : Read (List ℕ)) → region_line fs ≡ y → both step r' l' ≡ region_row s.entries s.counts.regions y r (sets l s.entries (region_numbers fs)) → settled (state_of s' x') ≡ read (state_of s x) y (take_region (state_of s x) end)
       by (bad k) p d =
           let st : step ≡ Err (Bad k) = ap (λ (y : Both). y.answer) d in
-          settled_bad s s' x x' 6 end k (es ∙ ap (advance_of s 6 end) st) h (long (ap (λ (y : Both). length y.table) d) (ap (λ (y : Both). length y.entries) d ∙ length-sets l s.entries (region_numbers fs)))
+          settled_bad s s' x x' Region end k (es ∙ ap (advance_of s Region end) st) h (long (ap (λ (y : Both). length y.table) d) (ap (λ (y : Both). length y.entries) d ∙ length-sets l s.entries (region_numbers fs)))
       by (says w) p d = room (ltb s.counts.regions 512 && leb (s.entries + length w) 8192) w p refl d
 
 -- ---- `B`
 module _ (s s' : Reading) (end : ℕ) (t v o a b r f l : List ℕ) (fs : List (List ℕ)) (h : s.lines < 2 ^ 32) (step : Result ℕ Unstored) (b' l' : List ℕ)
-    (e : both step b' l' ≡ block_store s.entries s.counts.blocks fs b l) (es : s' ≡ advance_of s 5 end step) where
+    (e : both step b' l' ≡ block_store s.entries s.counts.blocks fs b l) (es : s' ≡ advance_of s Block end step) where
   pub took_block_lem : settled (state_of s' (lent t v o a b' r f l' no_counts)) ≡ take_line (state_of s (lent t v o a b r f l no_counts)) end fs block
   unfolding block_store
   took_block_lem = by (block_line fs) refl e
@@ -261,23 +264,23 @@ module _ (s s' : Reading) (end : ℕ) (t v o a b r f l : List ℕ) (fs : List (L
           let st : step ≡ Ok (s.entries + length (w.arguments ++ w.operations)) = ap (λ (y : Both). y.answer) d in
           let tb : b' ≡ sets b (s.counts.blocks * 4) (block_cells s.entries w) = ap (λ (y : Both). y.table) d in
           let lb : l' ≡ sets l s.entries (w.arguments ++ w.operations) = ap (λ (y : Both). y.entries) d ∙ ap (sets l s.entries) (block_says fs w p) in
-          settled_taken s s' x x' 5 end (s.entries + length (w.arguments ++ w.operations)) (length (w.arguments ++ w.operations)) (counts s.counts.types s.counts.values s.counts.operations s.counts.attributes (suc s.counts.blocks) s.counts.regions s.counts.functions) (es ∙ ap (advance_of s 5 end) st) h refl
+          settled_taken s s' x x' Block end (s.entries + length (w.arguments ++ w.operations)) (length (w.arguments ++ w.operations)) (counts s.counts.types s.counts.values s.counts.operations s.counts.attributes (suc s.counts.blocks) s.counts.regions s.counts.functions) (es ∙ ap (advance_of s Block end) st) h refl
           (ap (λ (m : ℕ). counts s.counts.types s.counts.values s.counts.operations s.counts.attributes m s.counts.regions s.counts.functions) (next_is s.counts.blocks (small w q)))
           ∙ ap (λ (y : List ℕ). taken (state_of s x) 4 end (length (w.arguments ++ w.operations)) (lent t v o a y r f l' (counts s.counts.types s.counts.values s.counts.operations s.counts.attributes (suc s.counts.blocks) s.counts.regions s.counts.functions))) tb
           ∙ ap (λ (y : List ℕ). taken (state_of s x) 4 end (length (w.arguments ++ w.operations)) (lent t v o a (sets b (s.counts.blocks * 4) (block_cells s.entries w)) r f y (counts s.counts.types s.counts.values s.counts.operations s.counts.attributes (suc s.counts.blocks) s.counts.regions s.counts.functions))) lb
       room false w p q d =
           let st : step ≡ Err Full = ap (λ (y : Both). y.answer) d in
-          settled_full s s' x x' 5 end (es ∙ ap (advance_of s 5 end) st) (long (ap (λ (y : Both). length y.table) d) (ap (λ (y : Both). length y.entries) d ∙ length-sets l s.entries (block_numbers fs)))
+          settled_full s s' x x' Block end (es ∙ ap (advance_of s Block end) st) (long (ap (λ (y : Both). length y.table) d) (ap (λ (y : Both). length y.entries) d ∙ length-sets l s.entries (block_numbers fs)))
 
       by : (y : Read BlockRow) → block_line fs ≡ y → both step b' l' ≡ block_row s.entries s.counts.blocks y b (sets l s.entries (block_numbers fs)) → settled (state_of s' x') ≡ read (state_of s x) y (take_block (state_of s x) end)
       by (bad k) p d =
           let st : step ≡ Err (Bad k) = ap (λ (y : Both). y.answer) d in
-          settled_bad s s' x x' 5 end k (es ∙ ap (advance_of s 5 end) st) h (long (ap (λ (y : Both). length y.table) d) (ap (λ (y : Both). length y.entries) d ∙ length-sets l s.entries (block_numbers fs)))
+          settled_bad s s' x x' Block end k (es ∙ ap (advance_of s Block end) st) h (long (ap (λ (y : Both). length y.table) d) (ap (λ (y : Both). length y.entries) d ∙ length-sets l s.entries (block_numbers fs)))
       by (says w) p d = room (ltb s.counts.blocks 512 && leb (s.entries + length (w.arguments ++ w.operations)) 8192) w p refl d
 
 -- ---- `O`
 module _ (s s' : Reading) (end : ℕ) (t v o a b r f l : List ℕ) (fs : List (List ℕ)) (h : s.lines < 2 ^ 32) (ha : s.counts.attributes < 2 ^ 32) (step : Result ℕ Unstored) (o' l' : List ℕ)
-    (e : both step o' l' ≡ operation_store s.entries s.counts.operations s.counts.attributes fs o l) (es : s' ≡ advance_of s 3 end step) where
+    (e : both step o' l' ≡ operation_store s.entries s.counts.operations s.counts.attributes fs o l) (es : s' ≡ advance_of s Operation end step) where
   pub took_operation_lem : settled (state_of s' (lent t v o' a b r f l' no_counts)) ≡ take_line (state_of s (lent t v o a b r f l no_counts)) end fs operation
   unfolding operation_store
   took_operation_lem = by (operation_line fs) refl e
@@ -301,23 +304,23 @@ module _ (s s' : Reading) (end : ℕ) (t v o a b r f l : List ℕ) (fs : List (L
           let st : step ≡ Ok (s.entries + length (w.results ++ w.operands ++ w.regions)) = ap (λ (y : Both). y.answer) d in
           let tb : o' ≡ sets o (s.counts.operations * 16) (operation_cells s.entries s.counts.attributes w) = ap (λ (y : Both). y.table) d ∙ ap (λ (i : ℕ). sets o (s.counts.operations * 16) (operation_cells s.entries i w)) (mod-eq_of_lt ha) in
           let lb : l' ≡ sets l s.entries (w.results ++ w.operands ++ w.regions) = ap (λ (y : Both). y.entries) d ∙ ap (sets l s.entries) (operation_says fs w p) in
-          settled_taken s s' x x' 3 end (s.entries + length (w.results ++ w.operands ++ w.regions)) (length (w.results ++ w.operands ++ w.regions)) (counts s.counts.types s.counts.values (suc s.counts.operations) s.counts.attributes s.counts.blocks s.counts.regions s.counts.functions) (es ∙ ap (advance_of s 3 end) st) h refl
+          settled_taken s s' x x' Operation end (s.entries + length (w.results ++ w.operands ++ w.regions)) (length (w.results ++ w.operands ++ w.regions)) (counts s.counts.types s.counts.values (suc s.counts.operations) s.counts.attributes s.counts.blocks s.counts.regions s.counts.functions) (es ∙ ap (advance_of s Operation end) st) h refl
           (ap (λ (m : ℕ). counts s.counts.types s.counts.values m s.counts.attributes s.counts.blocks s.counts.regions s.counts.functions) (next_is s.counts.operations (small w q)))
           ∙ ap (λ (y : List ℕ). taken (state_of s x) 3 end (length (w.results ++ w.operands ++ w.regions)) (lent t v y a b r f l' (counts s.counts.types s.counts.values (suc s.counts.operations) s.counts.attributes s.counts.blocks s.counts.regions s.counts.functions))) tb
           ∙ ap (λ (y : List ℕ). taken (state_of s x) 3 end (length (w.results ++ w.operands ++ w.regions)) (lent t v (sets o (s.counts.operations * 16) (operation_cells s.entries s.counts.attributes w)) a b r f y (counts s.counts.types s.counts.values (suc s.counts.operations) s.counts.attributes s.counts.blocks s.counts.regions s.counts.functions))) lb
       room false w p q d =
           let st : step ≡ Err Full = ap (λ (y : Both). y.answer) d in
-          settled_full s s' x x' 3 end (es ∙ ap (advance_of s 3 end) st) (long (ap (λ (y : Both). length y.table) d) (ap (λ (y : Both). length y.entries) d ∙ length-sets l s.entries (operation_numbers fs)))
+          settled_full s s' x x' Operation end (es ∙ ap (advance_of s Operation end) st) (long (ap (λ (y : Both). length y.table) d) (ap (λ (y : Both). length y.entries) d ∙ length-sets l s.entries (operation_numbers fs)))
 
       by : (y : Read OperationRow) → operation_line fs ≡ y → both step o' l' ≡ operation_row s.entries s.counts.operations s.counts.attributes y o (sets l s.entries (operation_numbers fs)) → settled (state_of s' x') ≡ read (state_of s x) y (take_operation (state_of s x) end)
       by (bad k) p d =
           let st : step ≡ Err (Bad k) = ap (λ (y : Both). y.answer) d in
-          settled_bad s s' x x' 3 end k (es ∙ ap (advance_of s 3 end) st) h (long (ap (λ (y : Both). length y.table) d) (ap (λ (y : Both). length y.entries) d ∙ length-sets l s.entries (operation_numbers fs)))
+          settled_bad s s' x x' Operation end k (es ∙ ap (advance_of s Operation end) st) h (long (ap (λ (y : Both). length y.table) d) (ap (λ (y : Both). length y.entries) d ∙ length-sets l s.entries (operation_numbers fs)))
       by (says w) p d = room (ltb s.counts.operations 2048 && leb (s.entries + length (w.results ++ w.operands ++ w.regions)) 8192) w p refl d
 
 -- ---- `A`
 module _ (s s' : Reading) (end : ℕ) (t v o a b r f l : List ℕ) (fs : List (List ℕ)) (h : s.lines < 2 ^ 32) (step : Result ℕ Unstored) (o' a' l' : List ℕ) (eo : o' ≡ set o ((s.counts.operations - 1) * 16 + 8) ((get_or o ((s.counts.operations - 1) * 16 + 8) 0 + 1) % 2 ^ 32))
-    (e : both step a' l' ≡ attribute_store s.entries s.counts.attributes fs a l) (es : s' ≡ advance_of s 4 end step) where
+    (e : both step a' l' ≡ attribute_store s.entries s.counts.attributes fs a l) (es : s' ≡ advance_of s Attribute end step) where
   pub took_attribute_lem : settled (state_of s' (lent t v o' a' b r f l' no_counts)) ≡ take_line (state_of s (lent t v o a b r f l no_counts)) end fs attribute
   unfolding attribute_store
   took_attribute_lem = by (attribute_line fs) refl e
@@ -342,19 +345,19 @@ module _ (s s' : Reading) (end : ℕ) (t v o a b r f l : List ℕ) (fs : List (L
           let tb : a' ≡ sets a (s.counts.attributes * 8) (attribute_cells s.entries w) = ap (λ (y : Both). y.table) d in
           let ob : o' ≡ one_attribute_more o ((s.counts.operations - 1) * 16 + 8) = eo in
           let lb : l' ≡ sets l s.entries w.numbers = ap (λ (y : Both). y.entries) d ∙ ap (sets l s.entries) (attribute_says fs w p).numbers in
-          settled_taken s s' x x' 4 end (s.entries + length w.numbers) (length w.numbers) (counts s.counts.types s.counts.values s.counts.operations (suc s.counts.attributes) s.counts.blocks s.counts.regions s.counts.functions) (es ∙ ap (advance_of s 4 end) st) h refl
+          settled_taken s s' x x' Attribute end (s.entries + length w.numbers) (length w.numbers) (counts s.counts.types s.counts.values s.counts.operations (suc s.counts.attributes) s.counts.blocks s.counts.regions s.counts.functions) (es ∙ ap (advance_of s Attribute end) st) h refl
           (ap (λ (m : ℕ). counts s.counts.types s.counts.values s.counts.operations m s.counts.blocks s.counts.regions s.counts.functions) (next_is s.counts.attributes (small w q)))
           ∙ ap (λ (y : List ℕ). taken (state_of s x) 3 end (length w.numbers) (lent t v y a' b r f l' (counts s.counts.types s.counts.values s.counts.operations (suc s.counts.attributes) s.counts.blocks s.counts.regions s.counts.functions))) ob
           ∙ ap (λ (y : List ℕ). taken (state_of s x) 3 end (length w.numbers) (lent t v (one_attribute_more o ((s.counts.operations - 1) * 16 + 8)) y b r f l' (counts s.counts.types s.counts.values s.counts.operations (suc s.counts.attributes) s.counts.blocks s.counts.regions s.counts.functions))) tb
           ∙ ap (λ (y : List ℕ). taken (state_of s x) 3 end (length w.numbers) (lent t v (one_attribute_more o ((s.counts.operations - 1) * 16 + 8)) (sets a (s.counts.attributes * 8) (attribute_cells s.entries w)) b r f y (counts s.counts.types s.counts.values s.counts.operations (suc s.counts.attributes) s.counts.blocks s.counts.regions s.counts.functions))) lb
       room false w p q d =
           let st : step ≡ Err Full = ap (λ (y : Both). y.answer) d in
-          settled_full s s' x x' 4 end (es ∙ ap (advance_of s 4 end) st) (long (ap length eo ∙ simp length-set) (ap (λ (y : Both). length y.table) d) (ap (λ (y : Both). length y.entries) d ∙ length-sets l s.entries (attribute_numbers fs)))
+          settled_full s s' x x' Attribute end (es ∙ ap (advance_of s Attribute end) st) (long (ap length eo ∙ simp length-set) (ap (λ (y : Both). length y.table) d) (ap (λ (y : Both). length y.entries) d ∙ length-sets l s.entries (attribute_numbers fs)))
 
       by : (y : Read AttributeRow) → attribute_line fs ≡ y → both step a' l' ≡ attribute_row s.entries s.counts.attributes y a (sets l s.entries (attribute_numbers fs)) → settled (state_of s' x') ≡ read (state_of s x) y (take_attribute (state_of s x) end)
       by (bad k) p d =
           let st : step ≡ Err (Bad k) = ap (λ (y : Both). y.answer) d in
-          settled_bad s s' x x' 4 end k (es ∙ ap (advance_of s 4 end) st) h (long (ap length eo ∙ simp length-set) (ap (λ (y : Both). length y.table) d) (ap (λ (y : Both). length y.entries) d ∙ length-sets l s.entries (attribute_numbers fs)))
+          settled_bad s s' x x' Attribute end k (es ∙ ap (advance_of s Attribute end) st) h (long (ap length eo ∙ simp length-set) (ap (λ (y : Both). length y.table) d) (ap (λ (y : Both). length y.entries) d ∙ length-sets l s.entries (attribute_numbers fs)))
       by (says w) p d = room (ltb s.counts.attributes 4096 && leb (s.entries + length w.numbers) 8192) w p refl d
 
 -- ---- `tile`
@@ -371,69 +374,27 @@ took_header s s' end x fs h e = by (header_line fs) e
         ∙ ap (λ (n : ℕ). settled (state_of (record { phase = 1; lines = n; bytes = end; entries = s.entries; version = w.version; sm = w.sm; counts = s.counts; answer = (Ok tt) }) x)) (next_is s.lines h)
 
 -- ---- the kind of a line says where it goes
+
+abbrev by_kind : State → ℕ → List (List ℕ) → Result Kind BadField → State
+by_kind s end fs (Ok k) = take_line s end fs (tag_in k)
+by_kind s end fs (Err e) = refuse (NotInForm (suc s.lines) e.field) s
+
 module _ (s : State) (end : ℕ) (fs : List (List ℕ)) (phase : ℕ) where
-  abbrev out : State
-  out = refuse (NotInForm (suc s.lines) 0) s
+  pick : (t : Bool) (k : Kind) → cond t (take_line s end fs (tag_in k)) (refuse (NotInForm (suc s.lines) 0) s)
+      ≡ by_kind s end fs (cond t (Ok k) (Err (bad_field 0)))
+  pick true k = refl
+  pick false k = refl
 
-  pick : (t : Bool) (j k : ℕ) → cond t j 8 ≡ k → k < 8 → cond t (take_line s end fs (tag_at j)) out ≡ take_line s end fs (tag_at k)
-  pick true j k e h = ap (λ (i : ℕ). take_line s end fs (tag_at i)) e
-  pick false j k e h = absurd (omega arith)
-
-  pick_out : (t : Bool) (j : ℕ) → j < 8 → cond t j 8 ≡ 8 → cond t (take_line s end fs (tag_at j)) out ≡ out
-  pick_out true j h e = absurd (omega arith)
-  pick_out false j h e = refl
-
-  never : (t : Bool) (j : ℕ) → j < 8 → cond t j 8 ≡ 9 → ⊥
-  never true j h e = omega arith
-  never false j h e = omega arith
-
-  few : (t : Bool) (j : ℕ) → j < 8 → cond t j 8 ≤ 9
-  few true j h = omega arith
-  few false j h = omega arith
-
-  to_kind : (g : Tag) (k : ℕ) → cond (eqb (tag_number g) 8) 9 (cond (eqb (length fs) (fields_of (tag_at (tag_number g))) && in_order (tag_at (tag_number g)) phase) (tag_number g) 8) ≡ k → k < 8 → cond (well_placed g fs phase) (take_line s end fs g) out ≡ take_line s end fs (tag_at k)
-  to_kind header k e h = pick (eqb (length fs) 4 && eqb phase 0) 0 k e h
-  to_kind type k e h = pick (eqb (length fs) 7 && eqb phase 1) 1 k e h
-  to_kind value k e h = pick (eqb (length fs) 4 && (ltb 0 phase && leb phase 2)) 2 k e h
-  to_kind operation k e h = pick (eqb (length fs) 5 && (ltb 0 phase && leb phase 3)) 3 k e h
-  to_kind attribute k e h = pick (eqb (length fs) 4 && eqb phase 3) 4 k e h
-  to_kind block k e h = pick (eqb (length fs) 3 && (ltb 0 phase && leb phase 4)) 5 k e h
-  to_kind region k e h = pick (eqb (length fs) 2 && (ltb 0 phase && leb phase 5)) 6 k e h
-  to_kind function k e h = pick (eqb (length fs) 2 && (ltb 0 phase && leb phase 6)) 7 k e h
-  to_kind unknown k e h = absurd (omega arith)
-
-  to_out : (g : Tag) → cond (eqb (tag_number g) 8) 9 (cond (eqb (length fs) (fields_of (tag_at (tag_number g))) && in_order (tag_at (tag_number g)) phase) (tag_number g) 8) ≡ 8 → cond (well_placed g fs phase) (take_line s end fs g) out ≡ out
-  to_out header e = pick_out (eqb (length fs) 4 && eqb phase 0) 0 (omega arith) e
-  to_out type e = pick_out (eqb (length fs) 7 && eqb phase 1) 1 (omega arith) e
-  to_out value e = pick_out (eqb (length fs) 4 && (ltb 0 phase && leb phase 2)) 2 (omega arith) e
-  to_out operation e = pick_out (eqb (length fs) 5 && (ltb 0 phase && leb phase 3)) 3 (omega arith) e
-  to_out attribute e = pick_out (eqb (length fs) 4 && eqb phase 3) 4 (omega arith) e
-  to_out block e = pick_out (eqb (length fs) 3 && (ltb 0 phase && leb phase 4)) 5 (omega arith) e
-  to_out region e = pick_out (eqb (length fs) 2 && (ltb 0 phase && leb phase 5)) 6 (omega arith) e
-  to_out function e = pick_out (eqb (length fs) 2 && (ltb 0 phase && leb phase 6)) 7 (omega arith) e
-  to_out unknown e = absurd (omega arith)
-
-  to_unknown : (g : Tag) → cond (eqb (tag_number g) 8) 9 (cond (eqb (length fs) (fields_of (tag_at (tag_number g))) && in_order (tag_at (tag_number g)) phase) (tag_number g) 8) ≡ 9 → cond (well_placed g fs phase) (take_line s end fs g) out ≡ refuse (NotInForm (suc s.lines) 1) s
-  to_unknown header e = absurd (never (eqb (length fs) 4 && eqb phase 0) 0 (omega arith) e)
-  to_unknown type e = absurd (never (eqb (length fs) 7 && eqb phase 1) 1 (omega arith) e)
-  to_unknown value e = absurd (never (eqb (length fs) 4 && (ltb 0 phase && leb phase 2)) 2 (omega arith) e)
-  to_unknown operation e = absurd (never (eqb (length fs) 5 && (ltb 0 phase && leb phase 3)) 3 (omega arith) e)
-  to_unknown attribute e = absurd (never (eqb (length fs) 4 && eqb phase 3) 4 (omega arith) e)
-  to_unknown block e = absurd (never (eqb (length fs) 3 && (ltb 0 phase && leb phase 4)) 5 (omega arith) e)
-  to_unknown region e = absurd (never (eqb (length fs) 2 && (ltb 0 phase && leb phase 5)) 6 (omega arith) e)
-  to_unknown function e = absurd (never (eqb (length fs) 2 && (ltb 0 phase && leb phase 6)) 7 (omega arith) e)
-  to_unknown unknown e = refl
-
-  kind_few : (g : Tag) → cond (eqb (tag_number g) 8) 9 (cond (eqb (length fs) (fields_of (tag_at (tag_number g))) && in_order (tag_at (tag_number g)) phase) (tag_number g) 8) ≤ 9
-  kind_few header = few (eqb (length fs) 4 && eqb phase 0) 0 (omega arith)
-  kind_few type = few (eqb (length fs) 7 && eqb phase 1) 1 (omega arith)
-  kind_few value = few (eqb (length fs) 4 && (ltb 0 phase && leb phase 2)) 2 (omega arith)
-  kind_few operation = few (eqb (length fs) 5 && (ltb 0 phase && leb phase 3)) 3 (omega arith)
-  kind_few attribute = few (eqb (length fs) 4 && eqb phase 3) 4 (omega arith)
-  kind_few block = few (eqb (length fs) 3 && (ltb 0 phase && leb phase 4)) 5 (omega arith)
-  kind_few region = few (eqb (length fs) 2 && (ltb 0 phase && leb phase 5)) 6 (omega arith)
-  kind_few function = few (eqb (length fs) 2 && (ltb 0 phase && leb phase 6)) 7 (omega arith)
-  kind_few unknown = omega arith
+  placed_by : (g : Tag) → cond (well_placed g fs phase) (take_line s end fs g) (refuse (NotInForm (suc s.lines) 0) s) ≡ by_kind s end fs (kind_by fs phase (kind_at g))
+  placed_by header = pick (fits Header fs phase) Header
+  placed_by type = pick (fits «Type» fs phase) «Type»
+  placed_by value = pick (fits Value fs phase) Value
+  placed_by operation = pick (fits Operation fs phase) Operation
+  placed_by attribute = pick (fits Attribute fs phase) Attribute
+  placed_by block = pick (fits Block fs phase) Block
+  placed_by region = pick (fits Region fs phase) Region
+  placed_by function = pick (fits Function fs phase) Function
+  placed_by unknown = refl
 
 -- ---- a line, before a refusal zeroes the tables
 module _ (s : Reading) (x : Tables) (line : List ℕ) (far : Bool)
@@ -452,9 +413,9 @@ module _ (s : Reading) (x : Tables) (line : List ℕ) (far : Bool)
     near = by (ltb 65536 (s.bytes + suc (length line))) (ltb 65536 s.lines) (ltb 4096 s.counts.attributes) (sym ef ∙ k)
       where
         by : (a b c : Bool) → a || (b || c) ≡ false → (a ≡ false) × (b ≡ false) × (c ≡ false)
-        by true b c q = impossible (cc)
-        by false true c q = impossible (cc)
-        by false false true q = impossible (cc)
+        by true b c q = cc
+        by false true c q = cc
+        by false false true q = cc
         by false false false q = (refl, refl, refl)
 
     pub end_small : s.bytes + suc (length line) ≤ 65536
@@ -466,11 +427,13 @@ module _ (s : Reading) (x : Tables) (line : List ℕ) (far : Bool)
     pub attributes_small : s.counts.attributes < 2 ^ 32
     attributes_small = let h = ltb-false 4096 s.counts.attributes near.2 in omega arith
 
-    module _ (end kind : ℕ) (ee : end ≡ s.bytes + suc (length line)) (ek : kind ≡ kind_of (split 9 line) s.phase) where
-      placed_is : placed (state_of s x) end (split 9 line) (tag_of (nth 0 (split 9 line))) ≡ judged (state_of s x) line
-      unfolding judged
-      placed_is =
-          ap (λ (n : ℕ). placed (state_of s x) n (split 9 line) (tag_of (nth 0 (split 9 line)))) ee
+    module _ (end : ℕ) (ee : end ≡ s.bytes + suc (length line)) (kind : Result Kind BadField) (ek : kind ≡ kind_of (split 9 line) s.phase) where
+      judged_by : by_kind (state_of s x) end (split 9 line) kind ≡ judged (state_of s x) line
+      unfolding judged kind_of
+      judged_by =
+          ap (by_kind (state_of s x) end (split 9 line)) ek
+          ∙ sym (placed_by (state_of s x) end (split 9 line) s.phase (tag_of (nth 0 (split 9 line))))
+          ∙ ap (λ (n : ℕ). placed (state_of s x) n (split 9 line) (tag_of (nth 0 (split 9 line)))) ee
           ∙ sym (by (too_far (state_of s x) (s.bytes + suc (length line))) (sym ef ∙ k))
         where
           by : (t : Bool) → t ≡ false
@@ -478,25 +441,13 @@ module _ (s : Reading) (x : Tables) (line : List ℕ) (far : Bool)
               ≡ placed (state_of s x) (s.bytes + suc (length line)) (split 9 line) (tag_of (nth 0 (split 9 line)))
           by t q = rw q
 
-      pub near_kind : (K : ℕ) → kind ≡ K → K < 8 → take_line (state_of s x) end (split 9 line) (tag_at K) ≡ judged (state_of s x) line
-      unfolding kind_of
-      near_kind K h l = sym (to_kind (state_of s x) end (split 9 line) s.phase (tag_of (nth 0 (split 9 line))) K (sym ek ∙ h) l) ∙ placed_is
+      pub near_kind : (K : Kind) → kind ≡ Ok K → take_line (state_of s x) end (split 9 line) (tag_in K) ≡ judged (state_of s x) line
+      near_kind K h = ap (by_kind (state_of s x) end (split 9 line)) (sym h) ∙ judged_by
 
-      pub near_out : (s' : Reading) → kind ≡ 8 → s' ≡ advance_of s 8 end (Err (Bad 0)) → settled (state_of s' x) ≡ judged (state_of s x) line
-      unfolding kind_of
-      near_out s' h e =
-          settled_bad s s' x x 8 end 0 e lines_small refl
-          ∙ sym (to_out (state_of s x) end (split 9 line) s.phase (tag_of (nth 0 (split 9 line))) (sym ek ∙ h)) ∙ placed_is
-
-      pub near_unknown : (s' : Reading) → kind ≡ 9 → s' ≡ advance_of s 9 end (Err (Bad 1)) → settled (state_of s' x) ≡ judged (state_of s x) line
-      unfolding kind_of
-      near_unknown s' h e =
-          settled_bad s s' x x 9 end 1 e lines_small refl
-          ∙ sym (to_unknown (state_of s x) end (split 9 line) s.phase (tag_of (nth 0 (split 9 line))) (sym ek ∙ h)) ∙ placed_is
-
-      pub kind_le : kind ≤ 9
-      unfolding kind_of
-      kind_le = let h = kind_few (state_of s x) end (split 9 line) s.phase (tag_of (nth 0 (split 9 line))) in omega (arith, ek)
+      pub near_bad : (e : BadField) (s' : Reading) → kind ≡ Err e → s' ≡ refusing (NotInForm (next s.lines) e.field) → settled (state_of s' x) ≡ judged (state_of s x) line
+      near_bad e s' h q =
+          settled_refused s s' x x (NotInForm (suc s.lines) e.field) (q ∙ ap (λ (n : ℕ). refusing (NotInForm n e.field)) (next_is s.lines lines_small)) refl
+          ∙ ap (by_kind (state_of s x) end (split 9 line)) (sym h) ∙ judged_by
 
 -- ---- a refusal zeroes the tables, and nothing more is taken after one
 module _ (s : Reading) (x : Tables) where
@@ -524,16 +475,3 @@ module _ (s : Reading) (x : Tables) where
     pub line_onward : s.answer ≡ Ok tt → judged (state_of s x) line ≡ line_of (state_of s x) line
     unfolding line_of
     line_onward h = sym (ap (λ (y : Answer). onward y (state_of s x) (judged (state_of s x) line)) h)
-
--- what is none of 1 to 9, and no more than 9, is 0
-down : (k m : ℕ) → k ≤ m + 1 → (k ≡ m + 1 → ⊥) → k ≤ m
-down k m h n = omega arith
-
-pub only_zero : (k : ℕ) → k ≤ 9 → (k ≡ 9 → ⊥) → (k ≡ 8 → ⊥) → (k ≡ 1 → ⊥) → (k ≡ 2 → ⊥) → (k ≡ 3 → ⊥) → (k ≡ 4 → ⊥) → (k ≡ 5 → ⊥) → (k ≡ 6 → ⊥)
-    → (k ≡ 7 → ⊥) → k ≡ 0
-only_zero k h n9 n8 n1 n2 n3 n4 n5 n6 n7 =
-    let z = down k 0 (down k 1 (down k 2 (down k 3 (down k 4 (down k 5 (down k 6 (down k 7 (down k 8 h n9) n8) n7) n6) n5) n4) n3) n2) n1 in
-    zero_of k z
-  where
-    zero_of : (k : ℕ) → k ≤ 0 → k ≡ 0
-    zero_of k z = omega arith

@@ -2,13 +2,14 @@
 #![tactic(auto)]
 
 ghost use Rattle.std.specs.Prelude.{◌≡◌, suc, ◌+◌, leb, ltb, ◌&&◌, ◌||◌};
-ghost use Rattle.names.specs.Names.{bytes, equal};
 ghost use Rattle.fields.specs.Cut.{split};
 ghost use Rattle.lines.specs.Line.{header_line};
 ghost use Rattle.tables.specs.Tables.{lent};
 ghost use Rattle.house.specs.House.{no_counts, tag_of, fields_of, in_order, judged, line_of};
-ghost use Rattle.house.specs.Step.{tag_number, tag_at, kind_of, next, refusing, count_of, bump, counted, phase_of, advance_of, header_next, state_of, settled};
+ghost use Rattle.house.specs.Step.{kind_at, tag_in, kind_of, next, first_reading, refusing, table_of, count_of, counted, phase_of, advance_of, header_next, state_of, settled};
+ghost use Rattle.tables.specs.declared.Refusal.TheVariants.{OutOfRange, NotInForm};
 
+use lines::{BadField, HeaderLine};
 use stores::Unstored;
 use tables::{Answer, Counts, Refusal};
 
@@ -26,76 +27,61 @@ pub struct Reading {
     pub answer: Answer,
 }
 
-fn is_tile(tag: &[u8]) -> bool
-    ensures { result ≡ equal tag.now (bytes "tile") }
-{
-    if tag.len() != 4 {
-        return false;
-    }
-    if tag[0] != 116 {
-        return false;
-    }
-    if tag[1] != 105 {
-        return false;
-    }
-    if tag[2] != 108 {
-        return false;
-    }
-    tag[3] == 101
+// The kinds of line, in the order of their tables' numbers.
+#[derive(Clone, Copy)]
+pub enum Kind {
+    Header,
+    Type,
+    Value,
+    Operation,
+    Attribute,
+    Block,
+    Region,
+    Function,
 }
 
-// The kind that a tag names, as a number; 8 where it is unknown.
-fn tag_number(tag: &[u8]) -> u64
-    ensures { result ≡ tag_number (tag_of tag.now) }
+// The kind that a tag names.
+fn tag_of(tag: &[u8]) -> Option<Kind>
+    ensures { result ≡ kind_at (tag_of tag.now) }
 {
-    if is_tile(tag) {
-        return 0;
-    }
-    if tag.len() != 1 {
-        return 8;
-    }
-    let byte = tag[0];
-    match byte {
-        b'T' => 1,
-        b'V' => 2,
-        b'O' => 3,
-        b'A' => 4,
-        b'B' => 5,
-        b'R' => 6,
-        b'F' => 7,
-        _ => 8,
+    match tag {
+        b"tile" => Some(Kind::Header),
+        b"T" => Some(Kind::Type),
+        b"V" => Some(Kind::Value),
+        b"O" => Some(Kind::Operation),
+        b"A" => Some(Kind::Attribute),
+        b"B" => Some(Kind::Block),
+        b"R" => Some(Kind::Region),
+        b"F" => Some(Kind::Function),
+        _ => None,
     }
 }
 
 // How many fields a line of a kind has, the tag among them.
-fn fields_of(kind: u64) -> u64
-    ensures { result ≡ fields_of (tag_at kind) }
+fn fields_of(kind: Kind) -> u64
+    ensures { result ≡ fields_of (tag_in kind) }
 {
     match kind {
-        0 => 4,
-        1 => 7,
-        2 => 4,
-        3 => 5,
-        4 => 4,
-        5 => 3,
-        6 => 2,
-        7 => 2,
-        _ => 0,
+        Kind::Header => 4,
+        Kind::Type => 7,
+        Kind::Value => 4,
+        Kind::Operation => 5,
+        Kind::Attribute => 4,
+        Kind::Block => 3,
+        Kind::Region => 2,
+        Kind::Function => 2,
     }
 }
 
 fn next(x: u64) -> u64
     ensures { result ≡ next x }
 {
-    if x < 4294967296 {
-        return x + 1;
-    }
-    x
+    if x < 4294967296 { x + 1 } else { x }
 }
 
-// Nothing read, but for the refusal.
-pub fn refusing(refusal: Refusal) -> Reading
-    ensures { result ≡ refusing refusal }
+// Nothing read, but for the answer.
+pub fn first_reading(answer: Answer) -> Reading
+    ensures { result ≡ first_reading answer }
 {
     let counts = Counts {
         types: 0,
@@ -114,146 +100,160 @@ pub fn refusing(refusal: Refusal) -> Reading
         version: 0,
         sm: 0,
         counts,
-        answer: Err(refusal),
+        answer,
     }
 }
 
-fn count_of(n: Counts, kind: u64) -> u64
-    ensures { result ≡ count_of n kind }
+// Nothing read, but for the refusal.
+pub fn refusing(refusal: Refusal) -> Reading
+    ensures { result ≡ refusing refusal }
 {
-    match kind {
-        1 => n.types,
-        2 => n.values,
-        3 => n.operations,
-        4 => n.attributes,
-        5 => n.blocks,
-        6 => n.regions,
-        _ => n.functions,
-    }
+    first_reading(Err(refusal))
 }
 
-fn bump(x: u64, k: u64, kind: u64) -> u64
-    ensures { result ≡ bump x k kind }
+// A bad field of the next line.
+fn bad_line(s: Reading, field: u64) -> Reading
+    ensures { result ≡ refusing (NotInForm (next s.lines) field) }
 {
-    if kind == k {
-        return next(x);
-    }
-    x
+    refusing(Refusal::NotInForm {
+        line: next(s.lines),
+        field,
+    })
 }
 
-fn counted(n: Counts, kind: u64) -> Counts
+// The table of a kind is full.
+fn full(n: Counts, kind: Kind) -> Refusal
+    ensures { result ≡ OutOfRange (table_of kind) (count_of n kind) }
+{
+    let (table, entry) = match kind {
+        Kind::Header => (0, 0),
+        Kind::Type => (tables::TYPE_TABLE, n.types),
+        Kind::Value => (tables::VALUE_TABLE, n.values),
+        Kind::Operation => (tables::OPERATION_TABLE, n.operations),
+        Kind::Attribute => (tables::ATTRIBUTE_TABLE, n.attributes),
+        Kind::Block => (tables::BLOCK_TABLE, n.blocks),
+        Kind::Region => (tables::REGION_TABLE, n.regions),
+        Kind::Function => (tables::FUNCTION_TABLE, n.functions),
+    };
+    Refusal::OutOfRange { table, entry }
+}
+
+// One entry more in the table of a kind.
+fn counted(n: Counts, kind: Kind) -> Counts
     ensures { result ≡ counted n kind }
 {
-    Counts {
-        types: bump(n.types, 1, kind),
-        values: bump(n.values, 2, kind),
-        operations: bump(n.operations, 3, kind),
-        attributes: bump(n.attributes, 4, kind),
-        blocks: bump(n.blocks, 5, kind),
-        regions: bump(n.regions, 6, kind),
-        functions: bump(n.functions, 7, kind),
+    match kind {
+        Kind::Header => n,
+        Kind::Type => Counts {
+            types: next(n.types),
+            ..n
+        },
+        Kind::Value => Counts {
+            values: next(n.values),
+            ..n
+        },
+        Kind::Operation => Counts {
+            operations: next(n.operations),
+            ..n
+        },
+        Kind::Attribute => Counts {
+            attributes: next(n.attributes),
+            ..n
+        },
+        Kind::Block => Counts {
+            blocks: next(n.blocks),
+            ..n
+        },
+        Kind::Region => Counts {
+            regions: next(n.regions),
+            ..n
+        },
+        Kind::Function => Counts {
+            functions: next(n.functions),
+            ..n
+        },
     }
 }
 
-fn phase_of(kind: u64) -> u64
+// The phase that a line of a kind leaves; an attribute leaves that of its operation.
+fn phase_of(kind: Kind) -> u64
     ensures { result ≡ phase_of kind }
 {
-    if kind < 4 {
-        return kind;
+    match kind {
+        Kind::Header => 0,
+        Kind::Type => 1,
+        Kind::Value => 2,
+        Kind::Operation | Kind::Attribute => 3,
+        Kind::Block => 4,
+        Kind::Region => 5,
+        Kind::Function => 6,
     }
-    kind - 1
-}
-
-// Whether a phase lies from 1 to a last one.
-fn up_to(phase: u64, last: u64) -> bool
-    ensures { result ≡ ltb 0 phase && leb phase last }
-{
-    if phase == 0 {
-        return false;
-    }
-    phase <= last
 }
 
 // Whether a line of a kind may stand in a phase.
-fn in_order(kind: u64, phase: u64) -> bool
-    ensures { result ≡ in_order (tag_at kind) phase }
+fn in_order(kind: Kind, phase: u64) -> bool
+    ensures { result ≡ in_order (tag_in kind) phase }
 {
     match kind {
-        0 => phase == 0,
-        1 => phase == 1,
-        2 => up_to(phase, 2),
-        3 => up_to(phase, 3),
-        4 => phase == 3,
-        5 => up_to(phase, 4),
-        6 => up_to(phase, 5),
-        7 => up_to(phase, 6),
-        _ => true,
+        Kind::Header => phase == 0,
+        Kind::Type => phase == 1,
+        Kind::Value => 0 < phase && phase <= 2,
+        Kind::Operation => 0 < phase && phase <= 3,
+        Kind::Attribute => phase == 3,
+        Kind::Block => 0 < phase && phase <= 4,
+        Kind::Region => 0 < phase && phase <= 5,
+        Kind::Function => 0 < phase && phase <= 6,
     }
 }
 
-// The kind of a line; 8 where field 0 is at fault, 9 where field 1 is.
-fn kind_of(line: &[u8], phase: u64) -> u64
+// The kind of a line in a phase, or its bad field.
+#[tactic(auto, unfolding(crate::specs::Step::kind_of))]
+fn kind_of(line: &[u8], phase: u64) -> Result<Kind, BadField>
     ensures { result ≡ kind_of (split 9 line.now) phase }
 {
-    let kind = tag_number(fields::part(line, 9, 0));
-    if kind == 8 {
-        return 9;
+    let Some(kind) = tag_of(fields::part(line, b'\t', 0)) else {
+        return Err(BadField { field: 1 });
+    };
+    if fields::count(line, b'\t') != fields_of(kind) || !in_order(kind, phase) {
+        return Err(BadField { field: 0 });
     }
-    if fields::count(line, 9) != fields_of(kind) {
-        return 8;
-    }
-    if in_order(kind, phase) {
-        return kind;
-    }
-    8
+    Ok(kind)
 }
 
 // The reading after a line of a table was stored.
-fn advance(s: Reading, kind: u64, end: u64, step: Result<u64, Unstored>) -> Reading
+#[tactic(auto, unfolding(crate::specs::Step::advance_of))]
+fn advance(s: Reading, kind: Kind, end: u64, step: Result<u64, Unstored>) -> Reading
     ensures { result ≡ advance_of s kind end step }
 {
-    let n = s.counts;
     match step {
-        Err(Unstored::Bad(field)) => refusing(Refusal::NotInForm {
-            line: next(s.lines),
-            field,
-        }),
-        Err(Unstored::Full) => refusing(Refusal::OutOfRange {
-            table: kind,
-            entry: count_of(n, kind),
-        }),
+        Err(Unstored::Bad(field)) => bad_line(s, field),
+        Err(Unstored::Full) => refusing(full(s.counts, kind)),
         Ok(entries) => Reading {
             phase: phase_of(kind),
             lines: next(s.lines),
             bytes: end,
             entries,
-            version: s.version,
-            sm: s.sm,
-            counts: counted(n, kind),
+            counts: counted(s.counts, kind),
             answer: Ok(()),
+            ..s
         },
     }
 }
 
+#[tactic(auto, unfolding(crate::specs::Step::header_next))]
 fn header_next(line: &[u8], s: Reading, end: u64) -> Reading
     ensures { result ≡ header_next s end (header_line (split 9 line.now)) }
 {
-    let w = lines::header_line(line);
-    let n = s.counts;
-    match w {
-        Err(bad) => refusing(Refusal::NotInForm {
-            line: next(s.lines),
-            field: bad.field,
-        }),
-        Ok(header) => Reading {
+    match lines::header_line(line) {
+        Err(BadField { field }) => bad_line(s, field),
+        Ok(HeaderLine { version, sm }) => Reading {
             phase: 1,
             lines: next(s.lines),
             bytes: end,
-            entries: s.entries,
-            version: header.version,
-            sm: header.sm,
-            counts: n,
+            version,
+            sm,
             answer: Ok(()),
+            ..s
         },
     }
 }
@@ -262,16 +262,7 @@ fn header_next(line: &[u8], s: Reading, end: u64) -> Reading
 fn too_far(len: u64, bytes: u64, lines: u64, attributes: u64) -> bool
     ensures { result ≡ ltb 65536 (bytes + suc len) || (ltb 65536 lines || ltb 4096 attributes) }
 {
-    if tables::MAX_TEXT < bytes {
-        return true;
-    }
-    if tables::MAX_TEXT - bytes <= len {
-        return true;
-    }
-    if tables::MAX_TEXT < lines {
-        return true;
-    }
-    tables::MAX_ATTRIBUTES < attributes
+    tables::MAX_TEXT.saturating_sub(bytes) <= len || tables::MAX_TEXT < lines || tables::MAX_ATTRIBUTES < attributes
 }
 
 // The reading after a line, LF left off, before a refusal zeroes the tables.
@@ -291,49 +282,44 @@ fn next_reading(
 {
     let n = s.counts;
     let at = s.entries;
-    let bytes = s.bytes;
     let len = line.len() as u64;
-    if too_far(len, bytes, s.lines, n.attributes) {
+    if too_far(len, s.bytes, s.lines, n.attributes) {
         return refusing(Refusal::OutOfRange { table: 0, entry: 0 });
     }
-    let end = bytes + len + 1;
-    let kind = kind_of(line, s.phase);
-    if kind == 9 {
-        return advance(s, 9, end, Err(Unstored::Bad(1)));
+    let end = s.bytes + len + 1;
+    match kind_of(line, s.phase) {
+        Err(BadField { field }) => bad_line(s, field),
+        Ok(Kind::Header) => header_next(line, s, end),
+        Ok(Kind::Type) => {
+            let step = stores::store_type(line, at, n.types, t);
+            advance(s, Kind::Type, end, step)
+        }
+        Ok(Kind::Value) => {
+            let step = stores::store_value(line, at, n.values, v);
+            advance(s, Kind::Value, end, step)
+        }
+        Ok(Kind::Operation) => {
+            let step = stores::store_operation(line, at, n.operations, n.attributes, o, l);
+            advance(s, Kind::Operation, end, step)
+        }
+        Ok(Kind::Attribute) => {
+            let step = stores::store_attribute(line, at, n.attributes, a, l);
+            stores::count_attribute(o, n.operations.saturating_sub(1));
+            advance(s, Kind::Attribute, end, step)
+        }
+        Ok(Kind::Block) => {
+            let step = stores::store_block(line, at, n.blocks, b, l);
+            advance(s, Kind::Block, end, step)
+        }
+        Ok(Kind::Region) => {
+            let step = stores::store_region(line, at, n.regions, r, l);
+            advance(s, Kind::Region, end, step)
+        }
+        Ok(Kind::Function) => {
+            let step = stores::store_function(line, at, n.functions, f);
+            advance(s, Kind::Function, end, step)
+        }
     }
-    if kind == 8 {
-        return advance(s, 8, end, Err(Unstored::Bad(0)));
-    }
-    if kind == 1 {
-        let step = stores::store_type(line, at, n.types, t);
-        return advance(s, 1, end, step);
-    }
-    if kind == 2 {
-        let step = stores::store_value(line, at, n.values, v);
-        return advance(s, 2, end, step);
-    }
-    if kind == 3 {
-        let step = stores::store_operation(line, at, n.operations, n.attributes, o, l);
-        return advance(s, 3, end, step);
-    }
-    if kind == 4 {
-        let step = stores::store_attribute(line, at, n.attributes, a, l);
-        stores::count_attribute(o, cells::rest(n.operations, 1));
-        return advance(s, 4, end, step);
-    }
-    if kind == 5 {
-        let step = stores::store_block(line, at, n.blocks, b, l);
-        return advance(s, 5, end, step);
-    }
-    if kind == 6 {
-        let step = stores::store_region(line, at, n.regions, r, l);
-        return advance(s, 6, end, step);
-    }
-    if kind == 7 {
-        let step = stores::store_function(line, at, n.functions, f);
-        return advance(s, 7, end, step);
-    }
-    header_next(line, s, end)
 }
 
 // A refusal zeroes all tables.
@@ -350,8 +336,7 @@ pub fn settle(
 ) -> Reading
     ensures { state_of result (lent t.new v.new o.new a.new b.new r.new f.new l.new no_counts) ≡ settled (state_of s (lent t.old v.old o.old a.old b.old r.old f.old l.old no_counts)) }
 {
-    let answer = s.answer;
-    match answer {
+    match s.answer {
         Ok(()) => s,
         Err(refusal) => {
             cells::clear(t);
@@ -382,8 +367,7 @@ pub fn take_line(
 ) -> Reading
     ensures { state_of result (lent t.new v.new o.new a.new b.new r.new f.new l.new no_counts) ≡ line_of (state_of s (lent t.old v.old o.old a.old b.old r.old f.old l.old no_counts)) line.now }
 {
-    let answer = s.answer;
-    match answer {
+    match s.answer {
         Err(_) => s,
         Ok(()) => {
             let next = next_reading(line, s, t, v, o, a, b, r, f, l);

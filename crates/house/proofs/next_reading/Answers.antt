@@ -3,10 +3,12 @@ use native.Mathlib.Omega.{arith}
 use Prim.Native.Nat.{ℕ, ◌+◌, ◌*◌, ◌%◌, ◌^◌}
 use mathlib.Core.Path.{◌∙◌, ap}
 use lib.ListN.{length, get_or, set}
+use Rattle.std.specs.Prelude.{Ok, Err}
 use Rattle.fields.specs.Cut.{split}
 use Rattle.tables.specs.Tables.{lent}
 use Rattle.house.specs.House.{no_counts}
-use Rattle.house.proofs.Take.{took_header, took_type_lem, took_value_lem, took_operation_lem, took_attribute_lem, took_block_lem, took_region_lem, took_function_lem, judged_far, end_small, lines_small, attributes_small, near_kind, near_out, near_unknown, kind_le, only_zero}
+use Rattle.house.specs.declared.Kind.TheVariants.{Header, «Type», Value, Operation, Attribute, Block, Region, Function}
+use Rattle.house.proofs.Take.{took_header, took_type_lem, took_value_lem, took_operation_lem, took_attribute_lem, took_block_lem, took_region_lem, took_function_lem, judged_far, lines_small, attributes_small, near_kind, near_bad}
 use Rattle.house.proofs.next_reading.Goals as goal
 
 pub returns-then-too_far : goal.returns-then-too_far
@@ -17,107 +19,82 @@ returns-then-too_far c =
     let line = p.line.now in
     judged_far s x line _ c.too_far.ensures _ c.if-too_far.true c.refusing.ensures
 
-pub overflow_add-end : goal.overflow_add-end
-overflow_add-end c =
+pub returns-in-Err : goal.returns-in-Err
+returns-in-Err c =
     let p = c.args in
     let s = p.s in
     let x = lent p.t.now p.v.now p.o.now p.a.now p.b.now p.r.now p.f.now p.l.now no_counts in
     let line = p.line.now in
-    omega (arith, end_small s x line _ c.too_far.ensures c.if-too_far.false)
+    near_bad s x line _ c.too_far.ensures c.if-too_far.false (s.bytes + length line + 1) (omega arith) _ c.kind_of.ensures _ _ (c.in-Err.is ∙ ap Err c.in-Err.field-0-is) c.bad_line.ensures
 
-pub overflow_add-end-2 : goal.overflow_add-end-2
-overflow_add-end-2 c =
-    let p = c.args in
-    let s = p.s in
-    let x = lent p.t.now p.v.now p.o.now p.a.now p.b.now p.r.now p.f.now p.l.now no_counts in
-    let line = p.line.now in
-    omega (arith, end_small s x line _ c.too_far.ensures c.if-too_far.false)
-
-pub returns-then-kind-eq9 : goal.returns-then-kind-eq9
-returns-then-kind-eq9 c =
-    let p = c.args in
-    let s = p.s in
-    let x = lent p.t.now p.v.now p.o.now p.a.now p.b.now p.r.now p.f.now p.l.now no_counts in
-    let line = p.line.now in
-    near_unknown s x line _ c.too_far.ensures c.if-too_far.false (s.bytes + length line + 1) _ (omega arith) c.kind_of-kind.ensures _ c.if-kind-eq9.true c.advance.ensures
-
-pub returns-then-kind-eq8 : goal.returns-then-kind-eq8
-returns-then-kind-eq8 c =
-    let p = c.args in
-    let s = p.s in
-    let x = lent p.t.now p.v.now p.o.now p.a.now p.b.now p.r.now p.f.now p.l.now no_counts in
-    let line = p.line.now in
-    near_out s x line _ c.too_far.ensures c.if-too_far.false (s.bytes + length line + 1) _ (omega arith) c.kind_of-kind.ensures _ c.if-kind-eq8.true c.advance-then-kind-eq8.ensures
-
-pub returns-then-kind-eq1 : goal.returns-then-kind-eq1
-returns-then-kind-eq1 c =
-    let p = c.args in
-    let s = p.s in
-    let x = lent p.t.now p.v.now p.o.now p.a.now p.b.now p.r.now p.f.now p.l.now no_counts in
-    let line = p.line.now in
-    took_type_lem s _ (s.bytes + length line + 1) p.t.now p.v.now p.o.now p.a.now p.b.now p.r.now p.f.now p.l.now (split 9 line) (lines_small s x line _ c.too_far.ensures c.if-too_far.false) _ _ c.store_type-step.ensures c.advance-then-kind-eq1.ensures
-    ∙ near_kind s x line _ c.too_far.ensures c.if-too_far.false (s.bytes + length line + 1) _ (omega arith) c.kind_of-kind.ensures 1 c.if-kind-eq1.true (omega arith)
-
-pub returns-then-kind-eq2 : goal.returns-then-kind-eq2
-returns-then-kind-eq2 c =
-    let p = c.args in
-    let s = p.s in
-    let x = lent p.t.now p.v.now p.o.now p.a.now p.b.now p.r.now p.f.now p.l.now no_counts in
-    let line = p.line.now in
-    took_value_lem s _ (s.bytes + length line + 1) p.t.now p.v.now p.o.now p.a.now p.b.now p.r.now p.f.now p.l.now (split 9 line) (lines_small s x line _ c.too_far.ensures c.if-too_far.false) _ _ c.store_value-step.ensures c.advance-then-kind-eq2.ensures
-    ∙ near_kind s x line _ c.too_far.ensures c.if-too_far.false (s.bytes + length line + 1) _ (omega arith) c.kind_of-kind.ensures 2 c.if-kind-eq2.true (omega arith)
-
-pub returns-then-kind-eq3 : goal.returns-then-kind-eq3
-returns-then-kind-eq3 c =
-    let p = c.args in
-    let s = p.s in
-    let x = lent p.t.now p.v.now p.o.now p.a.now p.b.now p.r.now p.f.now p.l.now no_counts in
-    let line = p.line.now in
-    took_operation_lem s _ (s.bytes + length line + 1) p.t.now p.v.now p.o.now p.a.now p.b.now p.r.now p.f.now p.l.now (split 9 line) (lines_small s x line _ c.too_far.ensures c.if-too_far.false) (attributes_small s x line _ c.too_far.ensures c.if-too_far.false) _ _ _ c.store_operation-step.ensures c.advance-then-kind-eq3.ensures
-    ∙ near_kind s x line _ c.too_far.ensures c.if-too_far.false (s.bytes + length line + 1) _ (omega arith) c.kind_of-kind.ensures 3 c.if-kind-eq3.true (omega arith)
-
-pub returns-then-kind-eq4 : goal.returns-then-kind-eq4
-returns-then-kind-eq4 c =
-    let p = c.args in
-    let s = p.s in
-    let x = lent p.t.now p.v.now p.o.now p.a.now p.b.now p.r.now p.f.now p.l.now no_counts in
-    let line = p.line.now in
-    took_attribute_lem s _ (s.bytes + length line + 1) p.t.now p.v.now p.o.now p.a.now p.b.now p.r.now p.f.now p.l.now (split 9 line) (lines_small s x line _ c.too_far.ensures c.if-too_far.false) _ _ _ _ (c.count_attribute.ensures ∙ ap (λ (i : ℕ). set p.o.now (i * 16 + 8) ((get_or p.o.now (i * 16 + 8) 0 + 1) % 2 ^ 32)) c.rest.ensures) c.store_attribute-step.ensures c.advance-then-kind-eq4.ensures
-    ∙ near_kind s x line _ c.too_far.ensures c.if-too_far.false (s.bytes + length line + 1) _ (omega arith) c.kind_of-kind.ensures 4 c.if-kind-eq4.true (omega arith)
-
-pub returns-then-kind-eq5 : goal.returns-then-kind-eq5
-returns-then-kind-eq5 c =
-    let p = c.args in
-    let s = p.s in
-    let x = lent p.t.now p.v.now p.o.now p.a.now p.b.now p.r.now p.f.now p.l.now no_counts in
-    let line = p.line.now in
-    took_block_lem s _ (s.bytes + length line + 1) p.t.now p.v.now p.o.now p.a.now p.b.now p.r.now p.f.now p.l.now (split 9 line) (lines_small s x line _ c.too_far.ensures c.if-too_far.false) _ _ _ c.store_block-step.ensures c.advance-then-kind-eq5.ensures
-    ∙ near_kind s x line _ c.too_far.ensures c.if-too_far.false (s.bytes + length line + 1) _ (omega arith) c.kind_of-kind.ensures 5 c.if-kind-eq5.true (omega arith)
-
-pub returns-then-kind-eq6 : goal.returns-then-kind-eq6
-returns-then-kind-eq6 c =
-    let p = c.args in
-    let s = p.s in
-    let x = lent p.t.now p.v.now p.o.now p.a.now p.b.now p.r.now p.f.now p.l.now no_counts in
-    let line = p.line.now in
-    took_region_lem s _ (s.bytes + length line + 1) p.t.now p.v.now p.o.now p.a.now p.b.now p.r.now p.f.now p.l.now (split 9 line) (lines_small s x line _ c.too_far.ensures c.if-too_far.false) _ _ _ c.store_region-step.ensures c.advance-then-kind-eq6.ensures
-    ∙ near_kind s x line _ c.too_far.ensures c.if-too_far.false (s.bytes + length line + 1) _ (omega arith) c.kind_of-kind.ensures 6 c.if-kind-eq6.true (omega arith)
-
-pub returns-then-kind-eq7 : goal.returns-then-kind-eq7
-returns-then-kind-eq7 c =
-    let p = c.args in
-    let s = p.s in
-    let x = lent p.t.now p.v.now p.o.now p.a.now p.b.now p.r.now p.f.now p.l.now no_counts in
-    let line = p.line.now in
-    took_function_lem s _ (s.bytes + length line + 1) p.t.now p.v.now p.o.now p.a.now p.b.now p.r.now p.f.now p.l.now (split 9 line) (lines_small s x line _ c.too_far.ensures c.if-too_far.false) _ _ c.store_function-step.ensures c.advance-then-kind-eq7.ensures
-    ∙ near_kind s x line _ c.too_far.ensures c.if-too_far.false (s.bytes + length line + 1) _ (omega arith) c.kind_of-kind.ensures 7 c.if-kind-eq7.true (omega arith)
-
-pub returns : goal.returns
-returns c =
+pub returns-in-Ok-Header : goal.returns-in-Ok-Header
+returns-in-Ok-Header c =
     let p = c.args in
     let s = p.s in
     let x = lent p.t.now p.v.now p.o.now p.a.now p.b.now p.r.now p.f.now p.l.now no_counts in
     let line = p.line.now in
     took_header s _ (s.bytes + length line + 1) x (split 9 line) (lines_small s x line _ c.too_far.ensures c.if-too_far.false) c.header_next.ensures
-    ∙ near_kind s x line _ c.too_far.ensures c.if-too_far.false (s.bytes + length line + 1) _ (omega arith) c.kind_of-kind.ensures 0
-    (only_zero _ (kind_le s x line _ c.too_far.ensures c.if-too_far.false (s.bytes + length line + 1) _ (omega arith) c.kind_of-kind.ensures) c.if-kind-eq9.false c.if-kind-eq8.false c.if-kind-eq1.false c.if-kind-eq2.false c.if-kind-eq3.false c.if-kind-eq4.false c.if-kind-eq5.false c.if-kind-eq6.false c.if-kind-eq7.false) (omega arith)
+    ∙ near_kind s x line _ c.too_far.ensures c.if-too_far.false (s.bytes + length line + 1) (omega arith) _ c.kind_of.ensures Header (c.in-Ok-Header.is ∙ ap Ok c.in-Ok-Header.field-0-is)
+
+pub returns-in-Ok-Type : goal.returns-in-Ok-Type
+returns-in-Ok-Type c =
+    let p = c.args in
+    let s = p.s in
+    let x = lent p.t.now p.v.now p.o.now p.a.now p.b.now p.r.now p.f.now p.l.now no_counts in
+    let line = p.line.now in
+    took_type_lem s _ (s.bytes + length line + 1) p.t.now p.v.now p.o.now p.a.now p.b.now p.r.now p.f.now p.l.now (split 9 line) (lines_small s x line _ c.too_far.ensures c.if-too_far.false) _ _ c.store_type-step.ensures c.advance.ensures
+    ∙ near_kind s x line _ c.too_far.ensures c.if-too_far.false (s.bytes + length line + 1) (omega arith) _ c.kind_of.ensures «Type» (c.in-Ok-Type.is ∙ ap Ok c.in-Ok-Type.field-0-is)
+
+pub returns-in-Ok-Value : goal.returns-in-Ok-Value
+returns-in-Ok-Value c =
+    let p = c.args in
+    let s = p.s in
+    let x = lent p.t.now p.v.now p.o.now p.a.now p.b.now p.r.now p.f.now p.l.now no_counts in
+    let line = p.line.now in
+    took_value_lem s _ (s.bytes + length line + 1) p.t.now p.v.now p.o.now p.a.now p.b.now p.r.now p.f.now p.l.now (split 9 line) (lines_small s x line _ c.too_far.ensures c.if-too_far.false) _ _ c.store_value-step.ensures c.advance-in-Ok-Value.ensures
+    ∙ near_kind s x line _ c.too_far.ensures c.if-too_far.false (s.bytes + length line + 1) (omega arith) _ c.kind_of.ensures Value (c.in-Ok-Value.is ∙ ap Ok c.in-Ok-Value.field-0-is)
+
+pub returns-in-Ok-Operation : goal.returns-in-Ok-Operation
+returns-in-Ok-Operation c =
+    let p = c.args in
+    let s = p.s in
+    let x = lent p.t.now p.v.now p.o.now p.a.now p.b.now p.r.now p.f.now p.l.now no_counts in
+    let line = p.line.now in
+    took_operation_lem s _ (s.bytes + length line + 1) p.t.now p.v.now p.o.now p.a.now p.b.now p.r.now p.f.now p.l.now (split 9 line) (lines_small s x line _ c.too_far.ensures c.if-too_far.false) (attributes_small s x line _ c.too_far.ensures c.if-too_far.false) _ _ _ c.store_operation-step.ensures c.advance-in-Ok-Operation.ensures
+    ∙ near_kind s x line _ c.too_far.ensures c.if-too_far.false (s.bytes + length line + 1) (omega arith) _ c.kind_of.ensures Operation (c.in-Ok-Operation.is ∙ ap Ok c.in-Ok-Operation.field-0-is)
+
+pub returns-in-Ok-Attribute : goal.returns-in-Ok-Attribute
+returns-in-Ok-Attribute c =
+    let p = c.args in
+    let s = p.s in
+    let x = lent p.t.now p.v.now p.o.now p.a.now p.b.now p.r.now p.f.now p.l.now no_counts in
+    let line = p.line.now in
+    took_attribute_lem s _ (s.bytes + length line + 1) p.t.now p.v.now p.o.now p.a.now p.b.now p.r.now p.f.now p.l.now (split 9 line) (lines_small s x line _ c.too_far.ensures c.if-too_far.false) _ _ _ _ (c.count_attribute.ensures ∙ ap (λ (i : ℕ). set p.o.now (i * 16 + 8) ((get_or p.o.now (i * 16 + 8) 0 + 1) % 2 ^ 32)) c.saturating_sub.ensures) c.store_attribute-step.ensures c.advance-in-Ok-Attribute.ensures
+    ∙ near_kind s x line _ c.too_far.ensures c.if-too_far.false (s.bytes + length line + 1) (omega arith) _ c.kind_of.ensures Attribute (c.in-Ok-Attribute.is ∙ ap Ok c.in-Ok-Attribute.field-0-is)
+
+pub returns-in-Ok-Block : goal.returns-in-Ok-Block
+returns-in-Ok-Block c =
+    let p = c.args in
+    let s = p.s in
+    let x = lent p.t.now p.v.now p.o.now p.a.now p.b.now p.r.now p.f.now p.l.now no_counts in
+    let line = p.line.now in
+    took_block_lem s _ (s.bytes + length line + 1) p.t.now p.v.now p.o.now p.a.now p.b.now p.r.now p.f.now p.l.now (split 9 line) (lines_small s x line _ c.too_far.ensures c.if-too_far.false) _ _ _ c.store_block-step.ensures c.advance-in-Ok-Block.ensures
+    ∙ near_kind s x line _ c.too_far.ensures c.if-too_far.false (s.bytes + length line + 1) (omega arith) _ c.kind_of.ensures Block (c.in-Ok-Block.is ∙ ap Ok c.in-Ok-Block.field-0-is)
+
+pub returns-in-Ok-Region : goal.returns-in-Ok-Region
+returns-in-Ok-Region c =
+    let p = c.args in
+    let s = p.s in
+    let x = lent p.t.now p.v.now p.o.now p.a.now p.b.now p.r.now p.f.now p.l.now no_counts in
+    let line = p.line.now in
+    took_region_lem s _ (s.bytes + length line + 1) p.t.now p.v.now p.o.now p.a.now p.b.now p.r.now p.f.now p.l.now (split 9 line) (lines_small s x line _ c.too_far.ensures c.if-too_far.false) _ _ _ c.store_region-step.ensures c.advance-in-Ok-Region.ensures
+    ∙ near_kind s x line _ c.too_far.ensures c.if-too_far.false (s.bytes + length line + 1) (omega arith) _ c.kind_of.ensures Region (c.in-Ok-Region.is ∙ ap Ok c.in-Ok-Region.field-0-is)
+
+pub returns-in-Ok-Function : goal.returns-in-Ok-Function
+returns-in-Ok-Function c =
+    let p = c.args in
+    let s = p.s in
+    let x = lent p.t.now p.v.now p.o.now p.a.now p.b.now p.r.now p.f.now p.l.now no_counts in
+    let line = p.line.now in
+    took_function_lem s _ (s.bytes + length line + 1) p.t.now p.v.now p.o.now p.a.now p.b.now p.r.now p.f.now p.l.now (split 9 line) (lines_small s x line _ c.too_far.ensures c.if-too_far.false) _ _ c.store_function-step.ensures c.advance-in-Ok-Function.ensures
+    ∙ near_kind s x line _ c.too_far.ensures c.if-too_far.false (s.bytes + length line + 1) (omega arith) _ c.kind_of.ensures Function (c.in-Ok-Function.is ∙ ap Ok c.in-Ok-Function.field-0-is)
