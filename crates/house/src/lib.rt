@@ -262,7 +262,9 @@ fn header_next(line: &[u8], s: Reading, end: u64) -> Reading
 fn too_far(len: u64, bytes: u64, lines: u64, attributes: u64) -> bool
     ensures { result ≡ ltb 65536 (bytes + suc len) || (ltb 65536 lines || ltb 4096 attributes) }
 {
-    tables::MAX_TEXT.saturating_sub(bytes) <= len || tables::MAX_TEXT < lines || tables::MAX_ATTRIBUTES < attributes
+    tables::MAX_TEXT.saturating_sub(bytes) <= len
+        || tables::MAX_TEXT < lines
+        || tables::MAX_ATTRIBUTES < attributes
 }
 
 // The reading after a line, LF left off, before a refusal zeroes the tables.

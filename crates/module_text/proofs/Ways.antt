@@ -3,11 +3,9 @@ use Prim.Native.Nat.{ℕ, suc, ◌+◌, ◌-◌, ◌≤◌, ◌<◌}
 use mathlib.Core.Bool.{Bool, true, false, ◌&&◌, ◌||◌, cond}
 use mathlib.Core.List.{List, [], ◌∷◌}
 use mathlib.Core.Path.{◌≡◌, refl, sym, ◌∙◌, ap}
-use native.Mathlib.Numerals.{add-one}
 use native.Mathlib.Omega.{arith}
 use lib.Dec.{eqb, ltb}
 use lib.ListN.{length, take, drop, length-take, length-drop}
-use borrow.Author.Tests.{lt-ltb, le-ltb, ltb-false}
 use Rattle.fields.specs.Cut.{split, end_from}
 use Rattle.fields.proofs.Parts.{split_cons, end_le, at_last, at_more}
 use Rattle.tables.specs.Tables.{Tables}
@@ -15,14 +13,13 @@ use Rattle.tables.specs.Answer.{Answer}
 use Rattle.std.specs.Prelude.{Ok, Err}
 use Rattle.tables.specs.declared.Refusal.{Refusal}
 use Rattle.tables.specs.declared.Refusal.TheVariants.{OutOfRange, NotInForm}
-use Rattle.stores.proofs.Stores.{impossible}
 use Rattle.house.specs.State.{State}
 use Rattle.house.specs.House.{refuse, onward, line_of}
-use Rattle.house.specs.Step.{refusing, state_of, settled}
+use Rattle.house.specs.Step.{first_reading, refusing, state_of, settled}
 use Rattle.house.specs.declared.Reading.{Reading}
 use Rattle.house.proofs.Take.{settle_kept}
 use Rattle.module_text.specs.Whole.{fresh, started, last_of, lines_of, house, start_of}
-use Rattle.module_text.specs.Step.{first_reading, last_reading}
+use Rattle.module_text.specs.Step.{last_reading}
 
 -- ---- before any line
 pub first_settled : (q : Answer) (x : Tables) → settled (state_of (first_reading q) x) ≡ started q (fresh x)
@@ -82,40 +79,3 @@ module _ (text : List ℕ) (p e : ℕ) (h : p ≤ length text) (at : e ≡ end_f
 pub house_is : (text : List ℕ) (x : Tables) → lines_of (start_of x) (split 10 text) ≡ house text x
 unfolding house
 house_is text x = refl
-
--- ---- whether what is left reaches past the text
-module _ (left bytes lines attributes : ℕ) where
-  pub past_here : 65536 < bytes + left → true ≡ ltb 65536 (bytes + left) || (ltb 65536 lines || ltb 4096 attributes)
-  past_here h = rw (lt-ltb 65536 (bytes + left) h)
-
-  pub past_lines : bytes + left ≤ 65536 → 65536 < lines → true ≡ ltb 65536 (bytes + left) || (ltb 65536 lines || ltb 4096 attributes)
-  past_lines h k = rw (le-ltb 65536 (bytes + left) h, lt-ltb 65536 lines k)
-
-  pub past_not : bytes + left ≤ 65536 → lines ≤ 65536 → ltb 4096 attributes ≡ ltb 65536 (bytes + left) || (ltb 65536 lines || ltb 4096 attributes)
-  past_not h k = rw (le-ltb 65536 (bytes + left) h, le-ltb 65536 lines k)
-
-  pub lines_few : ltb 65536 (bytes + left) || (ltb 65536 lines || ltb 4096 attributes) ≡ false → lines ≤ 65536
-  lines_few e = ltb-false 65536 lines (by (ltb 65536 (bytes + left)) (ltb 65536 lines) (ltb 4096 attributes) e)
-    where
-      by : (a b c : Bool) → a || (b || c) ≡ false → b ≡ false
-      by true b c q = impossible (cc)
-      by false true c q = impossible (cc)
-      by false false c q = refl
-
--- ---- the reading after the last LF, in its three ways
-module _ (s : Reading) (left : ℕ) where
-  pub last_ended : (t : Bool) → t ≡ eqb left 0 && ltb 0 s.lines → t ≡ true → s ≡ last_reading s left
-  unfolding last_reading
-  last_ended t e k = rw (sym e ∙ k)
-
-  pub last_past : (t u : Bool) → t ≡ eqb left 0 && ltb 0 s.lines → t ≡ false
-      → u ≡ ltb 65536 (s.bytes + left) || (ltb 65536 s.lines || ltb 4096 s.counts.attributes) → u ≡ true → (r : Reading)
-      → r ≡ refusing (OutOfRange 0 0) → r ≡ last_reading s left
-  unfolding last_reading
-  last_past t u e k d j r q = q ∙ rw (sym e ∙ k, sym d ∙ j)
-
-  pub last_open : (t u : Bool) → t ≡ eqb left 0 && ltb 0 s.lines → t ≡ false
-      → u ≡ ltb 65536 (s.bytes + left) || (ltb 65536 s.lines || ltb 4096 s.counts.attributes) → u ≡ false → (r : Reading)
-      → r ≡ refusing (NotInForm (s.lines + 1) 0) → r ≡ last_reading s left
-  unfolding last_reading
-  last_open t u e k d j r q = q ∙ ap (λ (n : ℕ). refusing (NotInForm n 0)) (add-one s.lines) ∙ rw (sym e ∙ k, sym d ∙ j)

@@ -5,71 +5,55 @@ ghost use Rattle.std.specs.Prelude.{◌≡◌, ◌+◌, eqb, ltb, ◌&&◌, ◌|
 ghost use Rattle.tables.specs.Tables.{lent};
 ghost use Rattle.house.specs.House.{no_counts};
 ghost use Rattle.house.specs.Step.{state_of};
-ghost use Rattle.module_text.specs.Whole.{room, start_of, last_of, house};
-ghost use Rattle.module_text.specs.Step.{first_reading, last_reading};
+ghost use Rattle.module_text.specs.Whole.{full_size, room, start_of, last_of, house};
+ghost use Rattle.module_text.specs.Step.{last_reading};
 
 use house::Reading;
-use tables::{Answer, Counts, Refusal};
+use tables::{Answer, Refusal};
 
-fn short(needed: u64) -> Answer
-    ensures { result ≡ Err (Refusal.TooShort needed) }
+// Whether a slice so long has so many cells; else the size that is asked for answers.
+fn full_size(len: u64, cells: u64, size: u64) -> Answer
+    ensures { result ≡ full_size (leb cells len) size (Ok tt) }
 {
-    Err(Refusal::TooShort { needed })
-}
-
-// Whether slices so long have room for every entry; the first that has not answers.
-fn room(t: u64, v: u64, o: u64, a: u64, b: u64, r: u64, f: u64, l: u64) -> Answer
-    ensures { result ≡ room t v o a b r f l }
-{
-    if t < tables::MAX_TYPES * tables::TYPE_CELLS {
-        return short(tables::MAX_TYPES);
-    }
-    if v < tables::MAX_VALUES * tables::VALUE_CELLS {
-        return short(tables::MAX_VALUES);
-    }
-    if o < tables::MAX_OPERATIONS * tables::OPERATION_CELLS {
-        return short(tables::MAX_OPERATIONS);
-    }
-    if a < tables::MAX_ATTRIBUTES * tables::ATTRIBUTE_CELLS {
-        return short(tables::MAX_ATTRIBUTES);
-    }
-    if b < tables::MAX_BLOCKS * tables::BLOCK_CELLS {
-        return short(tables::MAX_BLOCKS);
-    }
-    if r < tables::MAX_REGIONS * tables::REGION_CELLS {
-        return short(tables::MAX_REGIONS);
-    }
-    if f < tables::MAX_FUNCTIONS {
-        return short(tables::MAX_FUNCTIONS);
-    }
-    if l < tables::MAX_ENTRIES {
-        return short(tables::MAX_ENTRIES);
+    if len < cells {
+        return Err(Refusal::TooShort { needed: size });
     }
     Ok(())
 }
 
-fn first_reading(answer: Answer) -> Reading
-    ensures { result ≡ first_reading answer }
+// Whether slices so long have room for every entry; the first that has not answers.
+#[tactic(auto, unfolding(crate::specs::Whole::room))]
+fn room(t: u64, v: u64, o: u64, a: u64, b: u64, r: u64, f: u64, l: u64) -> Answer
+    ensures { result ≡ room t v o a b r f l }
 {
-    let counts = Counts {
-        types: 0,
-        values: 0,
-        operations: 0,
-        attributes: 0,
-        blocks: 0,
-        regions: 0,
-        functions: 0,
-    };
-    Reading {
-        phase: 0,
-        lines: 0,
-        bytes: 0,
-        entries: 0,
-        version: 0,
-        sm: 0,
-        counts,
-        answer,
-    }
+    full_size(t, tables::MAX_TYPES * tables::TYPE_CELLS, tables::MAX_TYPES)?;
+    full_size(
+        v,
+        tables::MAX_VALUES * tables::VALUE_CELLS,
+        tables::MAX_VALUES,
+    )?;
+    full_size(
+        o,
+        tables::MAX_OPERATIONS * tables::OPERATION_CELLS,
+        tables::MAX_OPERATIONS,
+    )?;
+    full_size(
+        a,
+        tables::MAX_ATTRIBUTES * tables::ATTRIBUTE_CELLS,
+        tables::MAX_ATTRIBUTES,
+    )?;
+    full_size(
+        b,
+        tables::MAX_BLOCKS * tables::BLOCK_CELLS,
+        tables::MAX_BLOCKS,
+    )?;
+    full_size(
+        r,
+        tables::MAX_REGIONS * tables::REGION_CELLS,
+        tables::MAX_REGIONS,
+    )?;
+    full_size(f, tables::MAX_FUNCTIONS, tables::MAX_FUNCTIONS)?;
+    full_size(l, tables::MAX_ENTRIES, tables::MAX_ENTRIES)
 }
 
 // Before any line: nothing is read yet, or a table is too short.
@@ -95,48 +79,31 @@ pub fn start(
         f.len() as u64,
         l.len() as u64,
     );
-    house::settle(first_reading(answer), t, v, o, a, b, r, f, l)
-}
-
-// Nothing follows the last LF, and there is one.
-fn ended(left: u64, lines: u64) -> bool
-    ensures { result ≡ eqb left 0 && ltb 0 lines }
-{
-    if left == 0 {
-        return 0 < lines;
-    }
-    false
+    house::settle(house::first_reading(answer), t, v, o, a, b, r, f, l)
 }
 
 // Whether what is left reaches past the text, or the reading is one that no text reaches.
 fn past_text(left: u64, bytes: u64, lines: u64, attributes: u64) -> bool
     ensures { result ≡ ltb 65536 (bytes + left) || (ltb 65536 lines || ltb 4096 attributes) }
 {
-    if tables::MAX_TEXT < bytes {
-        return true;
-    }
-    if tables::MAX_TEXT - bytes < left {
-        return true;
-    }
-    if tables::MAX_TEXT < lines {
-        return true;
-    }
-    tables::MAX_ATTRIBUTES < attributes
+    tables::MAX_TEXT.saturating_sub(bytes) < left
+        || tables::MAX_TEXT < bytes
+        || tables::MAX_TEXT < lines
+        || tables::MAX_ATTRIBUTES < attributes
 }
 
+#[tactic(auto, unfolding(crate::specs::Step::last_reading))]
 fn last_reading(left: u64, s: Reading) -> Reading
     ensures { result ≡ last_reading s left }
 {
-    let n = s.counts;
-    let lines = s.lines;
-    if ended(left, lines) {
+    if left == 0 && 0 < s.lines {
         return s;
     }
-    if past_text(left, s.bytes, lines, n.attributes) {
+    if past_text(left, s.bytes, s.lines, s.counts.attributes) {
         return house::refusing(Refusal::OutOfRange { table: 0, entry: 0 });
     }
     house::refusing(Refusal::NotInForm {
-        line: lines + 1,
+        line: s.lines + 1,
         field: 0,
     })
 }
@@ -156,8 +123,7 @@ pub fn last_line(
 ) -> Reading
     ensures { state_of result (lent t.new v.new o.new a.new b.new r.new f.new l.new no_counts) ≡ last_of (state_of s (lent t.old v.old o.old a.old b.old r.old f.old l.old no_counts)) left }
 {
-    let answer = s.answer;
-    match answer {
+    match s.answer {
         Err(_) => s,
         Ok(()) => house::settle(last_reading(left, s), t, v, o, a, b, r, f, l),
     }
@@ -180,12 +146,11 @@ pub fn read_module(
     let mut s = start(t, v, o, a, b, r, f, l);
     let mut p: u64 = 0;
     loop {
-        let e = fields::find(text, p, 10);
-        if e < text.len() as u64 {
-            s = house::take_line(fields::between(text, p, e), s, t, v, o, a, b, r, f, l);
-            p = e + 1;
-        } else {
+        let e = fields::find(text, p, b'\n');
+        if text.len() as u64 <= e {
             return last_line(e - p, s, t, v, o, a, b, r, f, l);
         }
+        s = house::take_line(fields::between(text, p, e), s, t, v, o, a, b, r, f, l);
+        p = e + 1;
     }
 }

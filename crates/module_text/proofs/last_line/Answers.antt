@@ -7,13 +7,13 @@ use Rattle.house.specs.declared.Reading.{Reading}
 use Rattle.module_text.proofs.Ways.{last_kept, last_settled}
 use Rattle.module_text.proofs.last_line.Goals as goal
 
-pub returns-in-Refused : goal.returns-in-Refused
-returns-in-Refused c =
+pub returns-in-Err : goal.returns-in-Err
+returns-in-Err c =
     let p = c.args in
-    last_kept p.s (lent p.t.now p.v.now p.o.now p.a.now p.b.now p.r.now p.f.now p.l.now no_counts) p.left _ c.in-Refused.is
+    last_kept p.s (lent p.t.now p.v.now p.o.now p.a.now p.b.now p.r.now p.f.now p.l.now no_counts) p.left _ c.in-Err.is
 
-pub returns-in-Accepted : goal.returns-in-Accepted
-returns-in-Accepted c =
+pub returns-in-Ok : goal.returns-in-Ok
+returns-in-Ok c =
     let p = c.args in
     let x = lent p.t.now p.v.now p.o.now p.a.now p.b.now p.r.now p.f.now p.l.now no_counts in
-    c.settle.ensures ∙ ap (λ (y : Reading). settled (state_of y x)) c.last_reading.ensures ∙ last_settled p.s x p.left c.in-Accepted.is
+    c.settle.ensures ∙ ap (λ (y : Reading). settled (state_of y x)) c.last_reading.ensures ∙ last_settled p.s x p.left c.in-Ok.is

@@ -16,18 +16,18 @@ loop-p-init c =
 
 pub overflow_add-p : goal.overflow_add-p
 overflow_add-p c =
-    omega (arith, c.if-e-text.true)
+    omega (arith, c.if-text-e.false)
 
 pub loop-p-smaller : goal.loop-p-smaller
 loop-p-smaller c =
     let l = c.loop-p in
-    omega (arith, c.if-e-text.true, l.invariant.0, end_ge 10 l.p _ c.args.text.now l.invariant.0 c.find-e.ensures)
+    omega (arith, c.if-text-e.false, l.invariant.0, end_ge 10 l.p _ c.args.text.now l.invariant.0 c.find-e.ensures)
 
 pub loop-p-preserved : goal.loop-p-preserved
 loop-p-preserved c =
     let l = c.loop-p in
     let r = c.take_line-s in (
-      omega (arith, c.if-e-text.true),
+      omega (arith, c.if-text-e.false),
       r.auto.t ∙ l.invariant.1,
       r.auto.v ∙ l.invariant.2,
       r.auto.o ∙ l.invariant.3,
@@ -36,7 +36,7 @@ loop-p-preserved c =
       r.auto.r ∙ l.invariant.6,
       r.auto.f ∙ l.invariant.7,
       r.auto.l ∙ l.invariant.8,
-      next_line c.args.text.now l.p _ l.invariant.0 c.find-e.ensures _ _ _ l.invariant.9 c.if-e-text.true _ c.between.ensures r.ensures,
+      next_line c.args.text.now l.p _ l.invariant.0 c.find-e.ensures _ _ _ l.invariant.9 c.if-text-e.false _ c.between.ensures r.ensures,
     )
 
 pub overflow_sub-e : goal.overflow_sub-e
@@ -44,10 +44,10 @@ overflow_sub-e c =
     let l = c.loop-p in
     omega (arith, end_ge 10 l.p _ c.args.text.now l.invariant.0 c.find-e.ensures)
 
-pub returns-else-e-text : goal.returns-else-e-text
-returns-else-e-text c =
+pub returns-then-text-e : goal.returns-then-text-e
+returns-then-text-e c =
     let p = c.args in
     let l = c.loop-p in
-    no_line p.text.now l.p _ l.invariant.0 c.find-e.ensures _ _ _ l.invariant.9 (omega (arith, c.if-e-text.false)) c.last_line.ensures
+    no_line p.text.now l.p _ l.invariant.0 c.find-e.ensures _ _ _ l.invariant.9 c.if-text-e.true c.last_line.ensures
     ∙ ap (λ (y : State). lines_of y (split 10 p.text.now)) c.start-s.ensures
     ∙ house_is p.text.now (lent p.t.now p.v.now p.o.now p.a.now p.b.now p.r.now p.f.now p.l.now no_counts)
