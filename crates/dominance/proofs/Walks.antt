@@ -6,21 +6,19 @@ use mathlib.Core.Path.{◌≡◌, refl, sym, ap, ◌∙◌, subst}
 use mathlib.Core.List.{List, [], ◌∷◌}
 use lib.ListN.{length, get_or, drop}
 use Rattle.cells.proofs.Parts.{left_step, left_end}
-use Rattle.tables.specs.Tables.{Tables, lent, functions, regions, blocks, operations, arguments}
+use Rattle.tables.specs.Tables.{Tables, functions, regions, blocks, operations, arguments}
 use Rattle.tables.specs.Answer.{and_then, Answer}
-use Rattle.tables.specs.declared.Counts.{Counts}
 use Rattle.std.specs.Prelude.{Ok, Err}
 use Rattle.tables.specs.declared.Refusal.{Refusal}
 use Rattle.nesting.specs.Shape.{visit}
 use Rattle.nesting.specs.Live.{valued, result_values}
 use Rattle.nesting.specs.Dominance.{judged}
 use Rattle.nesting.specs.Ask.{answers, all, fold_operation, fold_operations, fold_block, fold_region, fold_whole}
-use Rattle.scope.specs.Stack.{see_all, Shows}
+use Rattle.scope.specs.Stack.{see_all, Holds}
+use Rattle.scope.specs.declared.Live.{Live}
 use Rattle.scope.specs.declared.Scope.{Scope}
-use Rattle.scope.proofs.Laws.{Begins, begins_same, begins_on, begins_all, rolled}
-use Rattle.dominance.specs.Walk.{Tells, Level, Stands, Went, told, after, region_judged, block_judged, operation_judged, regions_judged, function_judged, whole_judged}
-use Rattle.dominance.specs.declared.Walked.{Walked}
-use Rattle.dominance.specs.declared.Walked.TheVariants.{Fine, Refused as refused}
+use Rattle.scope.proofs.Laws.{Begins, begins_same, begins_on, begins_all, holds_back}
+use Rattle.dominance.specs.Walk.{Tells, Visited, Level, Stands, Went, told, after, region_judged, block_judged, operation_judged, regions_judged, function_judged, whole_judged}
 
 -- ---- ids visited one by one: f judges each, and g is what is live after it
 
@@ -37,67 +35,63 @@ abbrev pub same : Tables → List ℕ → ℕ → List ℕ
 same x live k = live
 
 -- i of the ids xs are visited: something is live now that the rest is visited with as all are with `live`
-pub record Going (f : ℕ → List ℕ → ℕ → Answer) (depth : ℕ) (g : List ℕ → ℕ → List ℕ) (xs live : List ℕ) (nv : ℕ) (d s : List ℕ) (next i : ℕ) : Type 0 where
+pub record Going (f : ℕ → List ℕ → ℕ → Answer) (depth : ℕ) (g : List ℕ → ℕ → List ℕ) (xs live : List ℕ) (nv : ℕ) {N : ℕ} (stack : Live N) (next i : ℕ) : Type 0 where
   pub now_live : List ℕ
-  pub stack : Shows nv d s next now_live
+  pub stands : Holds nv stack next now_live
   pub said : fold_ids (f depth) g now_live (drop i xs) ≡ fold_ids (f depth) g live xs
   pub leads : grown g now_live (drop i xs) ≡ grown g live xs
 
--- what each loop keeps, whatever the tables are that the walk was not lent
-pub record Loop (f : Tables → ℕ → List ℕ → ℕ → Answer) (g : Tables → List ℕ → ℕ → List ℕ) (o b r l : List ℕ) (n : Counts) (bases claims xs : List ℕ)
-    (d₀ s₀ : List ℕ) (from : Scope) (d s : List ℕ) (to : Scope) (i : ℕ) : Type 0 where
-  pub dense_long : length d ≡ length d₀
-  pub sparse_long : length s ≡ length s₀
+-- what each loop keeps
+pub record Loop (x : Tables) (bases claims : List ℕ) (f : ℕ → List ℕ → ℕ → Answer) (g : List ℕ → ℕ → List ℕ) (xs : List ℕ) {N : ℕ}
+    (stack₀ : Live N) (from : Scope) (stack : Live N) (to : Scope) (i : ℕ) : Type 0 where
   pub depth : to.depth ≡ from.depth
-  pub going : (t v a fs : List ℕ) → let x = lent t v o a b r fs l n in Tells x bases claims → (live : List ℕ) → Shows n.values d₀ s₀ from.next live
-      → Going (f x) from.depth (g x) xs live n.values d s to.next i
+  pub going : Tells x bases claims → (live : List ℕ) → Holds x.counts.values stack₀ from.next live
+      → Going f from.depth g xs live x.counts.values stack to.next i
 
-pub loop_start : {f : Tables → ℕ → List ℕ → ℕ → Answer} {g : Tables → List ℕ → ℕ → List ℕ} {o b r l : List ℕ} {n : Counts} {bases claims xs d s : List ℕ} {from : Scope}
-    → Loop f g o b r l n bases claims xs d s from d s from 0
+pub loop_start : {x : Tables} {bases claims : List ℕ} {f : ℕ → List ℕ → ℕ → Answer} {g : List ℕ → ℕ → List ℕ} {xs : List ℕ} {N : ℕ} {stack : Live N} {from : Scope}
+    → Loop x bases claims f g xs stack from stack from 0
 loop_start = record {
-  dense_long = refl;
-  sparse_long = refl;
   depth = refl;
-  going = λ t v a fs tells live h. record { now_live = live; stack = h; said = refl; leads = refl };
+  going = λ tells live h. record { now_live = live; stands = h; said = refl; leads = refl };
 }
 
-pub level_is : {w : Walked} {u : Scope} {d : ℕ} → Level w d → w ≡ Fine u → u.depth ≡ d
-level_is {d = d} h e = subst (λ (z : Walked). Level z d) e h
+pub level_is : {w : Visited} {u : Scope} {d : ℕ} → Level w d → w ≡ Ok u → u.depth ≡ d
+level_is {d = d} h e = subst (λ (z : Visited). Level z d) e h
 
-pub stands_is : {w : Walked} {u : Scope} {nv : ℕ} {d s live : List ℕ} {a : Answer} → Went w nv d s live a → w ≡ Fine u → Shows nv d s u.next live
-stands_is {nv = nv} {d = d} {s = s} {live = live} v e = subst (λ (z : Walked). Stands z nv d s live) e v.stands
+pub stands_is : {w : Visited} {u : Scope} {nv N : ℕ} {stack : Live N} {live : List ℕ} {a : Answer} → Went w nv stack live a → w ≡ Ok u → Holds nv stack u.next live
+stands_is {nv = nv} {stack = stack} {live = live} v e = subst (λ (z : Visited). Stands z nv stack live) e v.stands
 
-module _ {f : ℕ → List ℕ → ℕ → Answer} {depth : ℕ} {g : List ℕ → ℕ → List ℕ} {xs live : List ℕ} {nv : ℕ} {d s : List ℕ} {next i : ℕ}
-    (inv : Going f depth g xs live nv d s next i) where
+module _ {f : ℕ → List ℕ → ℕ → Answer} {depth : ℕ} {g : List ℕ → ℕ → List ℕ} {xs live : List ℕ} {nv N : ℕ} {stack : Live N} {next i : ℕ}
+    (inv : Going f depth g xs live nv stack next i) where
   pub going_said : length xs ≤ i → Ok tt ≡ fold_ids (f depth) g live xs
   going_said h = rw (left_end xs i 0 h) at inv.said
 
-  pub going_live : length xs ≤ i → Shows nv d s next (grown g live xs)
-  going_live h = let q : inv.now_live ≡ grown g live xs = rw (left_end xs i 0 h) at inv.leads in rw q at inv.stack
+  pub going_live : length xs ≤ i → Holds nv stack next (grown g live xs)
+  going_live h = let q : inv.now_live ≡ grown g live xs = rw (left_end xs i 0 h) at inv.leads in rw q at inv.stands
 
   -- a turn: the visit of the id at i
-  module _ {w : Walked} {d' s' : List ℕ} {depth' : ℕ} (h : i < length xs) (e : depth' ≡ depth)
-      (v : Went w nv d' s' (g inv.now_live (get_or xs i 0)) (f depth' inv.now_live (get_or xs i 0))) where
+  module _ {w : Visited} {stack' : Live N} {depth' : ℕ} (h : i < length xs) (e : depth' ≡ depth)
+      (v : Went w nv stack' (g inv.now_live (get_or xs i 0)) (f depth' inv.now_live (get_or xs i 0))) where
     here : told w ≡ f depth inv.now_live (get_or xs i 0)
     here = v.answer ∙ ap (λ (z : ℕ). f z inv.now_live (get_or xs i 0)) e
 
-    pub going_stop : {why : Refusal} → w ≡ refused why → Err why ≡ fold_ids (f depth) g live xs
+    pub going_stop : {why : Refusal} → w ≡ Err why → Err why ≡ fold_ids (f depth) g live xs
     going_stop {why} q =
         let z : f depth inv.now_live (get_or xs i 0) ≡ Err why = sym here ∙ ap told q in
         rw (left_step xs i 0 h, z) at inv.said
 
-    pub going_more : {u : Scope} → w ≡ Fine u → Going f depth g xs live nv d' s' u.next (i + 1)
+    pub going_more : {u : Scope} → w ≡ Ok u → Going f depth g xs live nv stack' u.next (i + 1)
     going_more q =
         let z : f depth inv.now_live (get_or xs i 0) ≡ (Ok tt) = sym here ∙ ap told q in
         record {
           now_live = g inv.now_live (get_or xs i 0);
-          stack = stands_is v q;
+          stands = stands_is v q;
           said = rw (left_step xs i 0 h, z) at inv.said;
           leads = rw (left_step xs i 0 h) at inv.leads;
         }
 
 -- a refusal, with any arrays
-pub stopped : {why : Refusal} {nv : ℕ} {d s live : List ℕ} {a : Answer} → Err why ≡ a → Went (refused why) nv d s live a
+pub stopped : {why : Refusal} {nv N : ℕ} {stack : Live N} {live : List ℕ} {a : Answer} → Err why ≡ a → Went (Err why) nv stack live a
 stopped e = record { answer = e; stands = tt }
 
 -- ---- the lists as the definitions have them
@@ -140,14 +134,14 @@ module _ (x : Tables) (d : ℕ) (live : List ℕ) where
   unfolding fold_region
   region_none k e = rw e
 
-  module _ (i : ℕ) {w : Walked} {nv : ℕ} {d₁ s₁ l₁ : List ℕ} (v : Went w nv d₁ s₁ l₁ (judged x (visit i live))) where
-    pub operation_stops : {why : Refusal} → w ≡ refused why → Err why ≡ operation_judged x d live i
+  module _ (i : ℕ) {w : Visited} {nv N : ℕ} {stack : Live N} {l₁ : List ℕ} (v : Went w nv stack l₁ (judged x (visit i live))) where
+    pub operation_stops : {why : Refusal} → w ≡ Err why → Err why ≡ operation_judged x d live i
     unfolding fold_operation
     operation_stops {why} e =
         let q : judged x (visit i live) ≡ Err why = sym v.answer ∙ ap told e in
         rw q
 
-    pub operation_goes : {u : Scope} {ks : List ℕ} → w ≡ Fine u → u.depth ≡ d → ks ≡ regions x i
+    pub operation_goes : {u : Scope} {ks : List ℕ} → w ≡ Ok u → u.depth ≡ d → ks ≡ regions x i
         → regions_judged x u.depth (after x live i) ks ≡ operation_judged x d live i
     unfolding fold_operation valued
     operation_goes e ed ek =
@@ -156,9 +150,9 @@ module _ (x : Tables) (d : ℕ) (live : List ℕ) where
 
 -- ---- rolled back
 
-pub back_to : {u scope : Scope} {nv n : ℕ} {d s d₀ s₀ live live₀ : List ℕ} → u ≡ scope → Shows nv d s n live → Begins live₀ live
-    → Shows nv d₀ s₀ scope.next live₀ → Shows nv d s u.next live₀
-back_to {nv = nv} {d = d} {s = s} {live₀ = live₀} e h p g = subst (λ (z : Scope). Shows nv d s z.next live₀) (sym e) (rolled h p g)
+pub back_to : {u scope : Scope} {nv n N : ℕ} {stack stack₀ : Live N} {live live₀ : List ℕ} → u ≡ scope → Holds nv stack n live → Begins live₀ live
+    → Holds nv stack₀ scope.next live₀ → Holds nv stack u.next live₀
+back_to {nv = nv} {stack = stack} {live₀ = live₀} e h p g = subst (λ (z : Scope). Holds nv stack z.next live₀) (sym e) (holds_back h p g)
 
 -- ---- the functions, i of them passed
 

@@ -1,5 +1,5 @@
 -- The walk as the code makes it, on the stack of live values: what each visit answers, and what is live after it.
-use Rattle.std.specs.Prelude.{ℕ, ◌+◌, ◌<◌, ◌≡◌, List, [], length, get_or, Ok, Err}
+use Rattle.std.specs.Prelude.{ℕ, ◌+◌, ◌<◌, ◌≡◌, List, [], length, get_or, Result, Ok, Err}
 use Rattle.tables.specs.Sizes.{max_depth}
 use Rattle.tables.specs.Tables.{Tables, regions, result_types}
 use Rattle.tables.specs.Value.{value_of}
@@ -8,9 +8,10 @@ use Rattle.values.specs.Claims.{number_of}
 use Rattle.nesting.specs.Live.{result_values, valued}
 use Rattle.nesting.specs.Dominance.{judged}
 use Rattle.nesting.specs.Ask.{answers, all, fold_operation, fold_block, fold_region, fold_whole}
-use Rattle.scope.specs.Stack.{see_all, Shows}
-use Rattle.dominance.specs.declared.Walked.{Walked}
-use Rattle.dominance.specs.declared.Walked.TheVariants.{Fine, Refused as refused}
+use Rattle.scope.specs.Stack.{see_all, Holds}
+use Rattle.scope.specs.declared.Live.{Live}
+use Rattle.scope.specs.declared.Scope.{Scope}
+use Rattle.tables.specs.declared.Refusal.{Refusal}
 
 -- what the cells hold of each declared result: one more than its value, or 0
 abbrev pub Tells : Tables → List ℕ → List ℕ → Type 0
@@ -44,21 +45,25 @@ whole_judged x = fold_whole answers (see_all x.counts.values) (judged x) (valued
 abbrev pub after : Tables → List ℕ → ℕ → List ℕ
 after x live i = see_all x.counts.values live (result_values x i)
 
-abbrev pub told : Walked → Answer
-told (Fine s) = Ok tt
-told (refused r) = Err r
+-- a visit hands back a scope, or refuses
+abbrev pub Visited : Type 0
+Visited = Result Scope Refusal
+
+abbrev pub told : Visited → Answer
+told (Ok s) = Ok tt
+told (Err r) = Err r
 
 -- a scope that is handed back stands at depth d
-abbrev pub Level : Walked → ℕ → Type 0
-Level (Fine s) d = s.depth ≡ d
-Level (refused r) d = Unit
+abbrev pub Level : Visited → ℕ → Type 0
+Level (Ok s) d = s.depth ≡ d
+Level (Err r) d = Unit
 
 -- and its stack shows what is live
-abbrev pub Stands : Walked → ℕ → List ℕ → List ℕ → List ℕ → Type 0
-Stands (Fine s) nv dense sparse live = Shows nv dense sparse s.next live
-Stands (refused r) nv dense sparse live = Unit
+abbrev pub Stands : Visited → ℕ → {N : ℕ} → Live N → List ℕ → Type 0
+Stands (Ok s) nv stack live = Holds nv stack s.next live
+Stands (Err r) nv stack live = Unit
 
 -- a visit answers a, and where that is fine `live` is live after it
-pub record Went (w : Walked) (nv : ℕ) (dense sparse live : List ℕ) (a : Answer) : Type 0 where
+pub record Went (w : Visited) (nv : ℕ) {N : ℕ} (stack : Live N) (live : List ℕ) (a : Answer) : Type 0 where
   pub answer : told w ≡ a
-  pub stands : Stands w nv dense sparse live
+  pub stands : Stands w nv stack live

@@ -1,386 +1,207 @@
 // Code 5: the first operand in walk order that is not visible where it is used.
 #![tactic(auto)]
 
-ghost use Rattle.std.specs.Prelude.{◌≡◌, List, ℕ, ◌≤◌, length, Ok};
-ghost use Rattle.std.proofs.Math.Option.{Option};
-ghost use Rattle.tables.specs.Tables.{lent};
+ghost use Rattle.std.specs.Prelude.{◌≡◌, List, [], ℕ, Ok};
 ghost use Rattle.table_checks.specs.Checks.{table_checks};
-ghost use Rattle.values.specs.Claims.{number_of, Filled};
-ghost use Rattle.nesting.specs.Live.{to_list};
+ghost use Rattle.values.specs.Claims.{Filled};
 ghost use Rattle.nesting.specs.Shape.{visit};
 ghost use Rattle.nesting.specs.Dominance.{judge, judged, dominance as visibleAll};
-ghost use Rattle.scope.specs.Stack.{see_all, Shows};
+ghost use Rattle.scope.specs.Stack.{Shows, Holds};
 ghost use Rattle.dominance.specs.Alone.{dominance_alone};
 ghost use Rattle.dominance.specs.Walk.{Tells, Level, Went, after, region_judged, block_judged, operation_judged, regions_judged, function_judged, whole_judged};
 
-use scope::Scope;
-use table_checks::Checked;
-use tables::{Answer, Counts, Refusal};
+use scope::{Live, Scope};
+use tables::{Answer, Refusal, Tables};
+use values::Claims;
 
 // As many values as a small stack takes.
 const FEW_VALUES: u64 = 512;
 
-// The scope after a visit, or the first operand that is not visible.
-#[derive(Clone, Copy)]
-enum Walked {
-    Fine(Scope),
-    Refused(Refusal),
-}
-
 // The first of the operation's operands that is not live.
-fn judge_operands(
-    dense: &[u64],
-    sparse: &[u64],
+fn judge_operands<const N: usize>(
+    stack: &Live<N>,
     next: u64,
     operation: u64,
     operands: &[u64],
 ) -> Answer
-    ensures { (nv : ℕ) (live : List ℕ) → Shows nv dense.now sparse.now next live → result ≡ judge live operation 0 operands.now }
+    ensures { (nv : ℕ) (live : List ℕ) → Shows nv stack.now.dense stack.now.sparse next live → result ≡ judge live operation 0 operands.now }
 {
-    let mut k = 0;
-    while k < operands.len() {
-        if !scope::is_live(dense, sparse, next, operands[k]) {
+    for (k, &v) in operands.iter().enumerate() {
+        if !stack.is_live(next, v) {
             return Err(Refusal::NotVisible {
                 operation,
                 operand: k as u64,
             });
         }
-        k += 1;
     }
     Ok(())
 }
 
-// The value of a declared result, by its number; 0 is none.
-fn add_numbered(scope: Scope, dense: &mut [u64], sparse: &mut [u64], nv: u64, number: u64) -> Scope
-    ensures depth_value { result.depth ≡ scope.depth }
-    ensures by_index { (value : Option ℕ) → number ≡ number_of value → (live : List ℕ) → Shows nv dense.old sparse.old scope.next live → Shows nv dense.new sparse.new result.next (see_all nv live (to_list value)) }
-{
-    if number == 0 {
-        return scope;
-    }
-    scope.add(dense, sparse, nv, number - 1)
-}
-
 // The values of the operation's declared results, of those that have one.
-fn add_results(
-    o: &[u32],
-    l: &[u64],
-    n: Counts,
-    bases: &[u64],
-    claims: &[u64],
-    dense: &mut [u64],
-    sparse: &mut [u64],
+fn add_results<const N: usize>(
+    x: &Tables<'_>,
+    claims: &Claims<'_>,
+    stack: &mut Live<N>,
     scope: Scope,
     id: u64,
 ) -> Scope
     ensures depth_value { result.depth ≡ scope.depth }
-    ensures shows { (t v a b r f : List ℕ) → let x = lent t v o.now a b r f l.now n in Tells x bases.now claims.now → (live : List ℕ) → Shows n.values dense.old sparse.old scope.next live → Shows n.values dense.new sparse.new result.next (after x live id) }
+    ensures shows { Tells x.now claims.now.bases.now claims.now.claims.now → (live : List ℕ) → Holds x.now.counts.values stack.old scope.next live → Holds x.now.counts.values stack.new result.next (after x.now live id) }
 {
-    let count = tables::result_types(o, l, n, id).len() as u64;
     let mut s = scope;
-    let mut k = 0;
-    while k < count {
-        let number = values::number_at(bases, claims, id, k);
-        s = add_numbered(s, dense, sparse, n.values, number);
-        k += 1;
+    for k in 0..x.result_types(id).len() as u64 {
+        if let Some(value) = claims.value_at(id, k) {
+            s = s.add(stack, value);
+        }
     }
     s
 }
 
+// Each visit answers with the scope after it, or the first operand that is not visible.
 // Operation id: its operands, then its results.
-fn open_operation(
-    o: &[u32],
-    l: &[u64],
-    n: Counts,
-    bases: &[u64],
-    claims: &[u64],
-    dense: &mut [u64],
-    sparse: &mut [u64],
+fn open_operation<const N: usize>(
+    x: &Tables<'_>,
+    claims: &Claims<'_>,
+    stack: &mut Live<N>,
     scope: Scope,
     id: u64,
-) -> Walked
+) -> Result<Scope, Refusal>
     ensures level { Level result scope.depth }
-    ensures went { (t v a b r f : List ℕ) → let x = lent t v o.now a b r f l.now n in Tells x bases.now claims.now → (live : List ℕ) → Shows n.values dense.old sparse.old scope.next live → Went result n.values dense.new sparse.new (after x live id) (judged x (visit id live)) }
+    ensures went { Tells x.now claims.now.bases.now claims.now.claims.now → (live : List ℕ) → Holds x.now.counts.values stack.old scope.next live → Went result x.now.counts.values stack.new (after x.now live id) (judged x.now (visit id live)) }
 {
-    let operands = tables::operands(o, l, n, id);
-    let next = scope.next;
-    if let Err(why) = judge_operands(dense, sparse, next, id, operands) {
-        return Walked::Refused(why);
-    }
-    Walked::Fine(add_results(o, l, n, bases, claims, dense, sparse, scope, id))
+    judge_operands(stack, scope.next, id, x.operands(id))?;
+    Ok(add_results(x, claims, stack, scope, id))
 }
 
 // Regions in order.
 #[cycle(visit_block_visit_operation_visit_region_visit_regions)]
-fn visit_regions(
-    o: &[u32],
-    b: &[u32],
-    r: &[u32],
-    l: &[u64],
-    n: Counts,
-    bases: &[u64],
-    claims: &[u64],
-    dense: &mut [u64],
-    sparse: &mut [u64],
+fn visit_regions<const N: usize>(
+    x: &Tables<'_>,
+    claims: &Claims<'_>,
+    stack: &mut Live<N>,
     scope: Scope,
     regions: &[u64],
-) -> Walked
+) -> Result<Scope, Refusal>
     ensures level { Level result scope.depth }
-    ensures went { (t v a f : List ℕ) → let x = lent t v o.now a b.now r.now f l.now n in Tells x bases.now claims.now → (live : List ℕ) → Shows n.values dense.old sparse.old scope.next live → Went result n.values dense.new sparse.new live (regions_judged x scope.depth live regions.now) }
+    ensures went { Tells x.now claims.now.bases.now claims.now.claims.now → (live : List ℕ) → Holds x.now.counts.values stack.old scope.next live → Went result x.now.counts.values stack.new live (regions_judged x.now scope.depth live regions.now) }
 {
     let mut s = scope;
-    let mut i = 0;
-    while i < regions.len() {
-        match visit_region(o, b, r, l, n, bases, claims, dense, sparse, s, regions[i]) {
-            Walked::Fine(u) => {
-                s = u;
-            }
-            Walked::Refused(why) => {
-                return Walked::Refused(why);
-            }
-        }
-        i += 1;
+    for &region in regions {
+        s = visit_region(x, claims, stack, s, region)?;
     }
-    Walked::Fine(s)
+    Ok(s)
 }
 
 // Region id: its blocks in order, where a depth is left for them.
 #[cycle(visit_block_visit_operation_visit_region_visit_regions)]
-fn visit_region(
-    o: &[u32],
-    b: &[u32],
-    r: &[u32],
-    l: &[u64],
-    n: Counts,
-    bases: &[u64],
-    claims: &[u64],
-    dense: &mut [u64],
-    sparse: &mut [u64],
+fn visit_region<const N: usize>(
+    x: &Tables<'_>,
+    claims: &Claims<'_>,
+    stack: &mut Live<N>,
     scope: Scope,
     id: u64,
-) -> Walked
+) -> Result<Scope, Refusal>
     ensures level { Level result scope.depth }
-    ensures went { (t v a f : List ℕ) → let x = lent t v o.now a b.now r.now f l.now n in Tells x bases.now claims.now → (live : List ℕ) → Shows n.values dense.old sparse.old scope.next live → Went result n.values dense.new sparse.new live (region_judged x scope.depth live id) }
+    ensures went { Tells x.now claims.now.bases.now claims.now.claims.now → (live : List ℕ) → Holds x.now.counts.values stack.old scope.next live → Went result x.now.counts.values stack.new live (region_judged x.now scope.depth live id) }
 {
-    let blocks = tables::blocks(r, l, n, id);
     if scope.depth == 0 {
-        return Walked::Fine(scope);
+        return Ok(scope);
     }
     let mut s = scope.enter();
-    let mut i = 0;
-    while i < blocks.len() {
-        match visit_block(o, b, r, l, n, bases, claims, dense, sparse, s, blocks[i]) {
-            Walked::Fine(u) => {
-                s = u;
-            }
-            Walked::Refused(why) => {
-                return Walked::Refused(why);
-            }
-        }
-        i += 1;
+    for &block in x.blocks(id) {
+        s = visit_block(x, claims, stack, s, block)?;
     }
-    Walked::Fine(s.roll_back(scope))
+    Ok(s.roll_back(scope))
 }
 
 // Block id: its arguments, then its operations in order; what it added is rolled back.
 #[cycle(visit_block_visit_operation_visit_region_visit_regions)]
-fn visit_block(
-    o: &[u32],
-    b: &[u32],
-    r: &[u32],
-    l: &[u64],
-    n: Counts,
-    bases: &[u64],
-    claims: &[u64],
-    dense: &mut [u64],
-    sparse: &mut [u64],
+fn visit_block<const N: usize>(
+    x: &Tables<'_>,
+    claims: &Claims<'_>,
+    stack: &mut Live<N>,
     scope: Scope,
     id: u64,
-) -> Walked
+) -> Result<Scope, Refusal>
     ensures level { Level result scope.depth }
-    ensures went { (t v a f : List ℕ) → let x = lent t v o.now a b.now r.now f l.now n in Tells x bases.now claims.now → (live : List ℕ) → Shows n.values dense.old sparse.old scope.next live → Went result n.values dense.new sparse.new live (block_judged x scope.depth live id) }
+    ensures went { Tells x.now claims.now.bases.now claims.now.claims.now → (live : List ℕ) → Holds x.now.counts.values stack.old scope.next live → Went result x.now.counts.values stack.new live (block_judged x.now scope.depth live id) }
 {
-    let operations = tables::operations(b, l, n, id);
-    let mut inside = scope.add_all(dense, sparse, n.values, tables::arguments(b, l, n, id));
-    let mut i = 0;
-    while i < operations.len() {
-        match visit_operation(
-            o,
-            b,
-            r,
-            l,
-            n,
-            bases,
-            claims,
-            dense,
-            sparse,
-            inside,
-            operations[i],
-        ) {
-            Walked::Fine(u) => {
-                inside = u;
-            }
-            Walked::Refused(why) => {
-                return Walked::Refused(why);
-            }
-        }
-        i += 1;
+    let mut inside = scope.add_all(stack, x.arguments(id));
+    for &operation in x.operations(id) {
+        inside = visit_operation(x, claims, stack, inside, operation)?;
     }
-    Walked::Fine(inside.roll_back(scope))
+    Ok(inside.roll_back(scope))
 }
 
 // Operation id: its operands and its results, then its regions, where the results are live.
 #[cycle(visit_block_visit_operation_visit_region_visit_regions)]
-fn visit_operation(
-    o: &[u32],
-    b: &[u32],
-    r: &[u32],
-    l: &[u64],
-    n: Counts,
-    bases: &[u64],
-    claims: &[u64],
-    dense: &mut [u64],
-    sparse: &mut [u64],
+fn visit_operation<const N: usize>(
+    x: &Tables<'_>,
+    claims: &Claims<'_>,
+    stack: &mut Live<N>,
     scope: Scope,
     id: u64,
-) -> Walked
+) -> Result<Scope, Refusal>
     ensures level { Level result scope.depth }
-    ensures went { (t v a f : List ℕ) → let x = lent t v o.now a b.now r.now f l.now n in Tells x bases.now claims.now → (live : List ℕ) → Shows n.values dense.old sparse.old scope.next live → Went result n.values dense.new sparse.new (after x live id) (operation_judged x scope.depth live id) }
+    ensures went { Tells x.now claims.now.bases.now claims.now.claims.now → (live : List ℕ) → Holds x.now.counts.values stack.old scope.next live → Went result x.now.counts.values stack.new (after x.now live id) (operation_judged x.now scope.depth live id) }
 {
-    match open_operation(o, l, n, bases, claims, dense, sparse, scope, id) {
-        Walked::Fine(inner) => {
-            let regions = tables::regions(o, l, n, id);
-            visit_regions(o, b, r, l, n, bases, claims, dense, sparse, inner, regions)
-        }
-        Walked::Refused(why) => Walked::Refused(why),
-    }
+    let inner = open_operation(x, claims, stack, scope, id)?;
+    visit_regions(x, claims, stack, inner, x.regions(id))
 }
 
 // A function operation: its regions, where nothing is live yet.
-fn visit_function(
-    o: &[u32],
-    b: &[u32],
-    r: &[u32],
-    l: &[u64],
-    n: Counts,
-    bases: &[u64],
-    claims: &[u64],
-    dense: &mut [u64],
-    sparse: &mut [u64],
+fn visit_function<const N: usize>(
+    x: &Tables<'_>,
+    claims: &Claims<'_>,
+    stack: &mut Live<N>,
     id: u64,
-) -> Answer
-    ensures { (t v a f : List ℕ) → let x = lent t v o.now a b.now r.now f l.now n in Tells x bases.now claims.now → n.values ≤ length dense.old → n.values ≤ length sparse.old → result ≡ function_judged x id }
+) -> Result<Scope, Refusal>
+    ensures { Tells x.now claims.now.bases.now claims.now.claims.now → Holds x.now.counts.values stack.old 0 [] → Went result x.now.counts.values stack.new [] (function_judged x.now id) }
 {
-    let regions = tables::regions(o, l, n, id);
     let start = Scope {
         next: 0,
         depth: tables::MAX_DEPTH,
     };
-    match visit_regions(o, b, r, l, n, bases, claims, dense, sparse, start, regions) {
-        Walked::Fine(_) => Ok(()),
-        Walked::Refused(why) => Err(why),
-    }
+    visit_regions(x, claims, stack, start, x.regions(id))
 }
 
 // The functions in order.
-fn visit_functions(
-    o: &[u32],
-    b: &[u32],
-    r: &[u32],
-    f: &[u32],
-    l: &[u64],
-    n: Counts,
-    bases: &[u64],
-    claims: &[u64],
-    dense: &mut [u64],
-    sparse: &mut [u64],
+fn visit_functions<const N: usize>(
+    x: &Tables<'_>,
+    claims: &Claims<'_>,
+    stack: &mut Live<N>,
 ) -> Answer
-    ensures { (t v a : List ℕ) → let x = lent t v o.now a b.now r.now f.now l.now n in Tells x bases.now claims.now → n.values ≤ length dense.old → n.values ≤ length sparse.old → result ≡ whole_judged x }
+    ensures { Tells x.now claims.now.bases.now claims.now.claims.now → Holds x.now.counts.values stack.old 0 [] → result ≡ whole_judged x.now }
 {
-    let count = cells::least(n.functions, f.len() as u64);
-    let mut i = 0;
-    while i < count {
-        let id = tables::function(f, n, i);
-        visit_function(
-            o, b, r, l, n, bases, claims, dense, sparse, id,
-        )?;
-        i += 1;
+    for &id in x.functions() {
+        visit_function(x, claims, stack, u64::from(id))?;
     }
     Ok(())
 }
 
-// The walk over few values, where 1 to 4 passed and the cells hold the claims: a small stack is soon cleared.
-fn walk_few(
-    o: &[u32],
-    b: &[u32],
-    r: &[u32],
-    f: &[u32],
-    l: &[u64],
-    n: Counts,
-    bases: &[u64],
-    claims: &[u64],
-) -> Answer
-    ensures { (t v a : List ℕ) → let x = lent t v o.now a b.now r.now f.now l.now n in table_checks x ≡ Ok tt → Filled x bases.now claims.now → n.values ≤ 512 → result ≡ visibleAll x }
+// For a caller that has asked 1 to 4 and hands on the claims: a small stack is soon cleared.
+pub fn after_checks(x: &Tables<'_>, claims: &Claims<'_>) -> Answer
+    ensures { table_checks x.now ≡ Ok tt → Filled x.now claims.now.bases.now claims.now.claims.now → result ≡ visibleAll x.now }
 {
-    let mut dense = [0u64; 512];
-    let mut sparse = [0u64; 512];
-    visit_functions(o, b, r, f, l, n, bases, claims, &mut dense, &mut sparse)
-}
-
-// For a caller that has asked 1 to 4 and hands on the claims.
-pub fn after_checks(
-    o: &[u32],
-    b: &[u32],
-    r: &[u32],
-    f: &[u32],
-    l: &[u64],
-    n: Counts,
-    bases: &[u64],
-    claims: &[u64],
-) -> Answer
-    ensures { (t v a : List ℕ) → let x = lent t v o.now a b.now r.now f.now l.now n in table_checks x ≡ Ok tt → Filled x bases.now claims.now → result ≡ visibleAll x }
-{
-    if n.values <= FEW_VALUES {
-        return walk_few(o, b, r, f, l, n, bases, claims);
+    let values = x.counts().values;
+    if values <= FEW_VALUES {
+        visit_functions(x, claims, &mut Live::<512>::new(values))
+    } else {
+        visit_functions(x, claims, &mut Live::<4096>::new(values))
     }
-    let mut dense = [0u64; 4096];
-    let mut sparse = [0u64; 4096];
-    visit_functions(o, b, r, f, l, n, bases, claims, &mut dense, &mut sparse)
 }
 
 // The first operand that is not visible, after 1 to 4.
-pub fn dominance(
-    t: &[u64],
-    v: &[u64],
-    o: &[u32],
-    a: &[u32],
-    b: &[u32],
-    r: &[u32],
-    f: &[u32],
-    l: &[u64],
-    n: Counts,
-) -> Answer
-    ensures { result ≡ dominance_alone (lent t.now v.now o.now a.now b.now r.now f.now l.now n) }
+pub fn dominance(x: &Tables<'_>) -> Answer
+    ensures { result ≡ dominance_alone x.now }
 {
+    let mut bases = [0; 2048];
+    let mut claims = [0; 8192];
     // The walk order is not asked for.
-    let mut order = [0u64; 0];
-    let mut bases = [0u64; 2048];
-    let mut claims = [0u64; 8192];
-    match table_checks::check_tables(
-        t,
-        v,
-        o,
-        a,
-        b,
-        r,
-        f,
-        l,
-        n,
-        &mut order,
-        &mut bases,
-        &mut claims,
-    ) {
-        Checked::Fine(_) => after_checks(o, b, r, f, l, n, &bases, &claims),
-        Checked::Refused(why) => Err(why),
-    }
+    table_checks::check_tables(x, &mut [], &mut bases, &mut claims)?;
+    let found = Claims {
+        bases: &bases,
+        claims: &claims,
+    };
+    after_checks(x, &found)
 }

@@ -1,5 +1,5 @@
 -- The walk as the code makes it, on the stack of live values: what each visit numbers, what it writes, and what is live after it.
-use Rattle.std.specs.Prelude.{ℕ, ◌+◌, ◌-◌, ◌<◌, ◌≡◌, List, [], length, get_or, Ok, Err}
+use Rattle.std.specs.Prelude.{ℕ, ◌+◌, ◌-◌, ◌<◌, ◌≡◌, List, [], length, get_or, Result, Ok, Err}
 use Rattle.tables.specs.Sizes.{max_depth}
 use Rattle.tables.specs.Sheet.{fixed_count_in}
 use Rattle.tables.specs.Tables.{Tables, regions, blocks, opcode, operands, result_types}
@@ -11,9 +11,10 @@ use Rattle.nesting.specs.Live.{result_values, valued}
 use Rattle.nesting.specs.Numbering.{Listing, fine, refused, join, counted, values_there}
 use Rattle.nesting.specs.Direct.{look_up, numbers_among}
 use Rattle.nesting.specs.Ask.{listings, all, of_first, fold_operation, fold_block, fold_region}
-use Rattle.scope.specs.Stack.{see_all, Shows}
+use Rattle.scope.specs.Stack.{see_all, Holds}
+use Rattle.scope.specs.declared.Live.{Live}
+use Rattle.tables.specs.declared.Refusal.{Refusal}
 use Rattle.numbering_walk.specs.declared.Walked.{Walked}
-use Rattle.numbering_walk.specs.declared.Walked.TheVariants.{Fine, Refused as Stopped}
 
 -- what the cells hold of each declared result: one more than its value, or 0
 abbrev pub Tells : Tables → List ℕ → List ℕ → Type 0
@@ -59,28 +60,32 @@ abbrev pub judged : Answer → Listing ℕ
 judged (Ok _) = fine []
 judged (Err r) = refused r
 
-abbrev pub told : Walked → List ℕ → Listing ℕ
-told (Fine s m) zs = fine zs
-told (Stopped r) zs = refused r
+-- a visit hands back where the walk stands, or refuses
+abbrev pub Visited : Type 0
+Visited = Result Walked Refusal
+
+abbrev pub told : Visited → List ℕ → Listing ℕ
+told (Ok w) zs = fine zs
+told (Err r) zs = refused r
 
 -- a scope that is handed back stands at depth d
-abbrev pub Level : Walked → ℕ → Type 0
-Level (Fine s m) d = s.depth ≡ d
-Level (Stopped r) d = Unit
+abbrev pub Level : Visited → ℕ → Type 0
+Level (Ok w) d = w.scope.depth ≡ d
+Level (Err r) d = Unit
 
 -- its stack shows what is live
-abbrev pub Stands : Walked → ℕ → List ℕ → List ℕ → List ℕ → Type 0
-Stands (Fine s m) nv dense sparse live = Shows nv dense sparse s.next live
-Stands (Stopped r) nv dense sparse live = Unit
+abbrev pub Stands : Visited → ℕ → {N : ℕ} → Live N → List ℕ → Type 0
+Stands (Ok w) nv stack live = Holds nv stack w.scope.next live
+Stands (Err r) nv stack live = Unit
 
 -- and so many numbers are written
-abbrev pub Reached : Walked → List ℕ → Filled → Type 0
-Reached (Fine s m) held p = filled held m ≡ p
-Reached (Stopped r) held p = Unit
+abbrev pub Reached : Visited → List ℕ → Filled → Type 0
+Reached (Ok w) held p = filled held w.done ≡ p
+Reached (Err r) held p = Unit
 
 -- a visit that began at p numbers a, and where that is fine its list is written and `live` is live after it
-pub record Went (w : Walked) (nv : ℕ) (dense sparse live held : List ℕ) (p : Filled) (a : Listing ℕ) : Type 0 where
+pub record Went (w : Visited) (nv : ℕ) {N : ℕ} (stack : Live N) (live held : List ℕ) (p : Filled) (a : Listing ℕ) : Type 0 where
   pub list : List ℕ
   pub answer : told w list ≡ a
-  pub stands : Stands w nv dense sparse live
+  pub stands : Stands w nv stack live
   pub wrote : Reached w held (push_all p list)

@@ -4,14 +4,14 @@ use Rattle.dominance.proofs.Operation.{judge_more, judge_hidden, judge_end}
 use Rattle.dominance.proofs.judge_operands.Goals as goal
 
 pub returns-then-not-is_live : goal.returns-then-not-is_live
-returns-then-not-is_live c = λ nv live g.
-    judge_hidden live _ _ _ _ (c.loop-k.invariant nv live g) c.loop-k-test.true
-    (sym (c.is_live.ensures nv live g) ∙ c.if-not-is_live.true)
+returns-then-not-is_live g c = λ nv live s.
+    judge_hidden live _ _ _ _ (c.loop-k.invariant nv live s) c.loop-k-test.true
+    (sym (c.is_live.ensures nv live s) ∙ c.if-not-is_live.true)
 
 pub loop-k-preserved : goal.loop-k-preserved
-loop-k-preserved c = λ nv live g.
-    judge_more live _ _ _ _ (c.loop-k.invariant nv live g) c.loop-k-test.true
-    (sym (c.is_live.ensures nv live g) ∙ c.if-not-is_live.false)
+loop-k-preserved g c = λ nv live s.
+    judge_more live _ _ _ _ (c.loop-k.invariant nv live s) c.loop-k-test.true
+    (sym (c.is_live.ensures nv live s) ∙ c.if-not-is_live.false)
 
 pub returns : goal.returns
-returns c = λ nv live g. judge_end live _ _ _ _ (c.loop-k.invariant nv live g) c.loop-k-test.false
+returns g c = λ nv live s. judge_end live _ _ _ _ (c.loop-k.invariant nv live s) c.loop-k-test.false

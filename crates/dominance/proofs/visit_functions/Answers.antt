@@ -1,47 +1,29 @@
 -- `visit_functions`: the functions in order, each on an empty stack. Assumes nothing.
-use Prim.Native.Nat.{◌<◌, ◌≤◌}
+use Prim.Native.Nat.{ℕ}
 use native.Mathlib.Omega.{arith}
-use mathlib.Core.Path.{refl, sym, ap, ◌∙◌}
-use lib.ListN.{length}
-use Rattle.tables.specs.Layout.{functions_in}
-use Rattle.tables.specs.Tables.{lent, functions}
-use Rattle.walk.proofs.Visits.{functions_counted}
-use Rattle.dominance.specs.Walk.{function_judged}
+use mathlib.Core.Path.{sym, ap, ◌∙◌}
+use mathlib.Core.List.{List}
+use lib.ListN.{length, get_or}
+use Rattle.std.proofs.lemmas.Result.{err_from_is_err_and}
+use Rattle.tables.specs.Tables.{functions}
+use Rattle.dominance.specs.Walk.{told, function_judged}
 use Rattle.dominance.proofs.Walks.{all_more, all_stop, all_end, whole_is}
 use Rattle.dominance.proofs.visit_functions.Goals as goal
 
-pub loop-i-init : goal.loop-i-init
-loop-i-init c = (refl, refl, c.least-count.ensures ∙ sym (functions_counted c.args.f.now c.args.n), λ t v e tells hd hs. refl)
-
-pub returns-in-Refused : goal.returns-in-Refused
-returns-in-Refused c =
-    let lp = c.loop-i in
-    let h : lp.i < length (functions_in c.args.f.now c.args.n) = omega (arith, lp.invariant.2, c.loop-i-test.true) in
-    λ t v e tells hd hs.
-    let x = lent t v c.args.o.now e c.args.b.now c.args.r.now c.args.f.now c.args.l.now c.args.n in
-    let q = c.in-Refused.ensures t v e c.args.f.now tells (omega (arith, lp.invariant.0, hd)) (omega (arith, lp.invariant.1, hs)) in
-    all_stop (function_judged x) (functions x) lp.i _ (lp.invariant.3 t v e tells hd hs) h
-    (ap (function_judged x) (sym c.function-id.ensures) ∙ sym q)
-    ∙ whole_is x
-
-pub loop-i-preserved : goal.loop-i-preserved
-loop-i-preserved c =
-    let lp = c.loop-i in
-    let h : lp.i < length (functions_in c.args.f.now c.args.n) = omega (arith, lp.invariant.2, c.loop-i-test.true) in (
-      c.visit_function.auto.dense ∙ lp.invariant.0,
-      c.visit_function.auto.sparse ∙ lp.invariant.1,
-      lp.invariant.2,
-      λ t v e tells hd hs.
-          let x = lent t v c.args.o.now e c.args.b.now c.args.r.now c.args.f.now c.args.l.now c.args.n in
-          let q = c.in_default.ensures t v e c.args.f.now tells (omega (arith, lp.invariant.0, hd)) (omega (arith, lp.invariant.1, hs)) in
-          all_more (function_judged x) (functions x) lp.i _ (lp.invariant.3 t v e tells hd hs) h
-          (ap (function_judged x) (sym c.function-id.ensures) ∙ sym q),
-    )
+pub returns-in_err-visit_function : goal.returns-in_err-visit_function
+returns-in_err-visit_function g c = λ tells h.
+    let x = c.args.x.now in
+    let at = c.loop-id.invariant tells h in
+    let went = c.visit_function.ensures tells at.0 in
+    let id = c.from.ensures ∙ ap (λ (xs : List ℕ). get_or xs c.loop-id.id-index 0) c.functions-id-items.ensures in
+    let p = err_from_is_err_and c.from_residual.result c.from_residual.ensures.1 in
+    rw (p.1, p.2)
+    (all_stop (function_judged x) (functions x) c.loop-id.id-index _ at.1 (omega (arith, c.loop-id-test.true, ap length c.functions-id-items.ensures))
+    (ap (function_judged x) (sym id) ∙ sym went.answer ∙ ap told c.in_err-visit_function.was)
+    ∙ whole_is x)
 
 pub returns : goal.returns
-returns c =
-    let lp = c.loop-i in
-    let h : length (functions_in c.args.f.now c.args.n) ≤ lp.i = omega (arith, lp.invariant.2, c.loop-i-test.false) in
-    λ t v e tells hd hs.
-    let x = lent t v c.args.o.now e c.args.b.now c.args.r.now c.args.f.now c.args.l.now c.args.n in
-    all_end (function_judged x) (functions x) lp.i _ (lp.invariant.3 t v e tells hd hs) h ∙ whole_is x
+returns g c = λ tells h.
+    let x = c.args.x.now in
+    all_end (function_judged x) (functions x) c.loop-id.id-index _ (c.loop-id.invariant tells h).1 (omega (arith, c.loop-id-test.false, ap length c.functions-id-items.ensures))
+    ∙ whole_is x
