@@ -1,6 +1,6 @@
 -- An arm of the operation rules: one line for each `fail` of the Rust arm, in its order, with its condition and its place.
 -- "Reason is the place of the `fail` in its arm, counted from 1 in source order".
-use Rattle.std.specs.Prelude.{ℕ, Bool, true, false, Result, Err, ⊤}
+use Rattle.std.specs.Prelude.{ℕ, Bool, true, false, Result, Ok, Err, ⊤}
 use Rattle.lookups.specs.declared.Fault.{Fault}
 use Rattle.lookups.specs.declared.Fault.TheVariants.{Broken, Leaves}
 
@@ -16,3 +16,8 @@ fail_if false reason rest = rest
 unfoldable pub leave_if : Bool → Verdict → Verdict
 leave_if true rest = Err Leaves
 leave_if false rest = rest
+
+-- the first of two that does not hold
+abbrev pub or_else : Verdict → Verdict → Verdict
+or_else (Ok _) rest = rest
+or_else (Err fault) rest = Err fault

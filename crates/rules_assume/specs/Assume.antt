@@ -1,6 +1,6 @@
 -- The arm of Assume: the attributes in list order, each by its form, "names ignored". `value` is the tile of operand 0, and `view` says
 -- that its type is a tensor view.
-use Rattle.std.specs.Prelude.{ℕ, ◌/◌, ◌%◌, ◌^◌, Bool, true, false, not, cond, ◌&&◌, ◌||◌, List, [], ◌∷◌, map, eqb, ltb, get_or, Option, Some, None, Ok, Err}
+use Rattle.std.specs.Prelude.{ℕ, ◌/◌, ◌%◌, ◌^◌, Bool, false, not, cond, ◌&&◌, ◌||◌, List, [], ◌∷◌, map, eqb, ltb, get_or, Option, Some, None, Ok}
 use Rattle.std.specs.Int.Signed.{lt_z}
 use Rattle.cells.specs.Lists.{from}
 use Rattle.arith.specs.Signed.{signed_of, fits_width}
@@ -15,8 +15,7 @@ use Rattle.tiles.specs.Rules.{is_group_outside, is_groups_outside}
 use Rattle.tiles.specs.declared.Tile.{Tile}
 use Rattle.lookups.specs.Lookup.{is_absent}
 use Rattle.lookups.specs.Typed.{operand_type_in, operand_tile_in}
-use Rattle.lookups.specs.Verdict.{Verdict, fail_if}
-use Rattle.lookups.specs.declared.Fault.TheVariants.{Broken, Leaves}
+use Rattle.lookups.specs.Verdict.{Verdict, fail_if, or_else}
 
 -- ---- a number of an attribute
 
@@ -95,19 +94,9 @@ attribute_rule a l sheet n value view k =
     (Ok tt)))
 
 -- the first answer that does not hold
-abbrev pub or_else : Verdict → Verdict → Verdict
-or_else (Ok tt) rest = rest
-or_else (Err (Broken reason)) rest = Err (Broken reason)
-or_else (Err Leaves) rest = Err Leaves
-
 abbrev pub in_turn : (ℕ → Verdict) → List ℕ → Verdict
 in_turn rule [] = Ok tt
 in_turn rule (k ∷ ks) = or_else (rule k) (in_turn rule ks)
-
-abbrev pub is_holds : Verdict → Bool
-is_holds (Ok tt) = true
-is_holds (Err (Broken reason)) = false
-is_holds (Err Leaves) = false
 
 -- "3 tensor view", through any pointer attribute
 abbrev pub is_tensor_view : List ℕ → Counts → Option ℕ → Bool

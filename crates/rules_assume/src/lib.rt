@@ -1,13 +1,11 @@
 // The operation rule of Assume: div_by, same_elements and bounded. The arm answers on any tables.
-#![tactic(auto)]
+#![tactic(auto, unfolding(lookups::specs::Verdict::fail_if))]
 
 ghost use Rattle.std.specs.Prelude.{◌≡◌};
-ghost use Rattle.std.specs.Int.Signed.{lt_z};
-ghost use Rattle.lookups.specs.Lookup.{is_absent};
-ghost use Rattle.rules_assume.specs.Assume.{has_bit, number_in, is_divisor_wrong, group_rule, div_by_rule, same_elements_rule, is_outside_width, is_reversed, is_bound_wrong, bounded_rule, attribute_rule, is_holds, is_tensor_view, assume_in};
+ghost use Rattle.rules_assume.specs.Assume.{number_in, is_divisor_wrong, group_rule, div_by_rule, same_elements_rule, is_outside_width, is_reversed, is_bound_wrong, bounded_rule, attribute_rule, is_tensor_view, assume_arm};
 
-use lookups::{Fault, Verdict};
-use tables::Counts;
+use lookups::{Verdict, fail_if};
+use tables::Tables;
 use tiles::Tile;
 
 // The greatest divisor, 2^62.
@@ -15,96 +13,70 @@ const MOST_DIVISOR: u64 = 4611686018427387904;
 
 const TENSOR_VIEW: u64 = 3;
 
-// Bit j of the 32 of a cell.
-fn has_bit(mask: u64, j: u64) -> bool
-    ensures { result ≡ has_bit mask j }
-{
-    if 32 <= j {
-        return false;
-    }
-    (mask >> j) % 2 == 1
-}
-
 // Number j of an attribute, where it is not absent.
-fn number_at(a: &[u32], l: &[u64], n: Counts, attribute: u64, j: u64) -> Option<u64>
-    ensures { result ≡ number_in a.now l.now n attribute j }
+#[tactic(auto, unfolding(crate::specs::Assume::number_in, crate::specs::Assume::has_bit, arith::specs::Bits::has_bit))]
+fn number_at(x: &Tables<'_>, attribute: u64, j: u64) -> Option<u64>
+    ensures { result ≡ number_in x.now.a x.now.l x.now.counts attribute j }
 {
-    if has_bit(tables::attribute_absent(a, n, attribute), j) {
+    if arith::has_bit(32, x.attribute_absent(attribute), j) {
         return None;
     }
-    Some(cells::at(tables::attribute_numbers(a, l, n, attribute), j))
-}
-
-fn is_absent(found: Option<u64>) -> bool
-    ensures { result ≡ is_absent found }
-{
-    match found {
-        Some(_) => false,
-        None => true,
-    }
+    Some(cells::at(x.attribute_numbers(attribute), j))
 }
 
 // ---- div_by
 
+#[tactic(auto, unfolding(crate::specs::Assume::is_divisor_wrong))]
 fn is_divisor_wrong(divisor: u64, every: Option<u64>, along: Option<u64>) -> bool
     ensures { result ≡ is_divisor_wrong divisor every along }
 {
-    let no_every = is_absent(every);
-    let no_along = is_absent(along);
     !arith::power_of_two(divisor)
-        | (MOST_DIVISOR < divisor)
-        | (no_every & !no_along)
-        | (!no_every & no_along)
+        || MOST_DIVISOR < divisor
+        || every.is_none() && along.is_some()
+        || every.is_some() && along.is_none()
 }
 
 // What is asked of a group size and an axis that are both there.
+#[tactic(auto, unfolding(crate::specs::Assume::group_rule, lookups::specs::Verdict::fail_if))]
 fn group_rule(value: Tile, every: Option<u64>, along: Option<u64>) -> Verdict
     ensures { result ≡ group_rule value every along }
 {
-    let Some(size) = every else {
+    let (Some(size), Some(axis)) = (every, along) else {
         return Ok(());
     };
-    let Some(axis) = along else {
-        return Ok(());
-    };
-    if !tiles::is_tile(value) {
-        return Err(Fault::Broken(3));
-    }
-    if tiles::group_outside(value, size, axis) {
-        return Err(Fault::Broken(4));
-    }
-    Ok(())
+    fail_if(!tiles::is_tile(value), 3)?;
+    fail_if(tiles::group_outside(value, size, axis), 4)
 }
 
-fn div_by_rule(value: Tile, view: bool, divisor: u64, every: Option<u64>, along: Option<u64>) -> Verdict
+#[tactic(auto, unfolding(crate::specs::Assume::div_by_rule, lookups::specs::Verdict::fail_if))]
+fn div_by_rule(
+    value: Tile,
+    view: bool,
+    divisor: u64,
+    every: Option<u64>,
+    along: Option<u64>,
+) -> Verdict
     ensures { result ≡ div_by_rule value view divisor every along }
 {
-    if is_divisor_wrong(divisor, every, along) {
-        return Err(Fault::Broken(1));
-    }
-    if !tiles::is_integers_or_pointers(value) & !view {
-        return Err(Fault::Broken(2));
-    }
+    fail_if(is_divisor_wrong(divisor, every, along), 1)?;
+    fail_if(!tiles::is_integers_or_pointers(value) && !view, 2)?;
     group_rule(value, every, along)
 }
 
 // ---- same_elements
 
+#[tactic(auto, unfolding(crate::specs::Assume::same_elements_rule, lookups::specs::Verdict::fail_if))]
 fn same_elements_rule(value: Tile, sizes: &[u64]) -> Verdict
     ensures { result ≡ same_elements_rule value sizes.now }
 {
-    if !tiles::is_integers_or_pointers(value) {
-        return Err(Fault::Broken(5));
-    }
-    if tiles::groups_outside(value, sizes) {
-        return Err(Fault::Broken(6));
-    }
-    Ok(())
+    fail_if(!tiles::is_integers_or_pointers(value), 5)?;
+    fail_if(tiles::groups_outside(value, sizes), 6)
 }
 
 // ---- bounded
 
 // An endpoint outside the signed range of so many bits.
+#[tactic(auto, unfolding(crate::specs::Assume::is_outside_width))]
 fn is_outside_width(bits: u64, endpoint: Option<u64>) -> bool
     ensures { result ≡ is_outside_width bits endpoint }
 {
@@ -114,121 +86,76 @@ fn is_outside_width(bits: u64, endpoint: Option<u64>) -> bool
     }
 }
 
-fn less(x: i64, y: i64) -> bool
-    ensures { result ≡ lt_z x y }
-{
-    x < y
-}
-
 // Two endpoints, the lower above the upper.
+#[tactic(auto, unfolding(crate::specs::Assume::is_reversed))]
 fn is_reversed(lb: Option<u64>, ub: Option<u64>) -> bool
     ensures { result ≡ is_reversed lb ub }
 {
-    let Some(low) = lb else {
-        return false;
-    };
-    match ub {
-        Some(high) => less(arith::signed(high), arith::signed(low)),
-        None => false,
+    match (lb, ub) {
+        (Some(low), Some(high)) => arith::signed(high) < arith::signed(low),
+        _ => false,
     }
 }
 
+#[tactic(auto, unfolding(crate::specs::Assume::is_bound_wrong))]
 fn is_bound_wrong(bits: u64, lb: Option<u64>, ub: Option<u64>) -> bool
     ensures { result ≡ is_bound_wrong bits lb ub }
 {
-    is_outside_width(bits, lb) | is_outside_width(bits, ub) | is_reversed(lb, ub)
+    is_outside_width(bits, lb) || is_outside_width(bits, ub) || is_reversed(lb, ub)
 }
 
+#[tactic(auto, unfolding(crate::specs::Assume::bounded_rule, lookups::specs::Verdict::fail_if))]
 fn bounded_rule(sheet: &[u64], value: Tile, lb: Option<u64>, ub: Option<u64>) -> Verdict
     ensures { result ≡ bounded_rule sheet.now value lb ub }
 {
-    if !tiles::is_integers(value) {
-        return Err(Fault::Broken(7));
-    }
+    fail_if(!tiles::is_integers(value), 7)?;
     let bits = tiles::bits(sheet, value.kind);
-    if is_bound_wrong(bits, lb, ub) {
-        return Err(Fault::Broken(8));
-    }
-    Ok(())
+    fail_if(is_bound_wrong(bits, lb, ub), 8)
 }
 
 // ---- the arm
 
 // What an attribute asks, by its form.
-fn attribute_rule(
-    a: &[u32],
-    l: &[u64],
-    sheet: &[u64],
-    n: Counts,
-    value: Tile,
-    view: bool,
-    attribute: u64,
-) -> Verdict
-    ensures { result ≡ attribute_rule a.now l.now sheet.now n value view attribute }
+#[tactic(auto, unfolding(crate::specs::Assume::attribute_rule))]
+fn attribute_rule(x: &Tables<'_>, sheet: &[u64], value: Tile, view: bool, attribute: u64) -> Verdict
+    ensures { result ≡ attribute_rule x.now.a x.now.l sheet.now x.now.counts value view attribute }
 {
-    let form = tables::attribute_form(a, n, attribute);
-    let numbers = tables::attribute_numbers(a, l, n, attribute);
-    if form == names::DIVISOR {
-        let divisor = cells::at(numbers, 0);
-        let every = number_at(a, l, n, attribute, 1);
-        let along = number_at(a, l, n, attribute, 2);
-        return div_by_rule(value, view, divisor, every, along);
-    }
-    if form == names::SIZES {
-        return same_elements_rule(value, numbers);
-    }
-    if form == names::ENDPOINTS {
-        let lb = number_at(a, l, n, attribute, 0);
-        let ub = number_at(a, l, n, attribute, 1);
-        return bounded_rule(sheet, value, lb, ub);
-    }
-    Ok(())
-}
-
-fn holds(verdict: Verdict) -> bool
-    ensures { result ≡ is_holds verdict }
-{
-    match verdict {
-        Ok(()) => true,
-        Err(Fault::Broken(_)) => false,
-        Err(Fault::Leaves) => false,
+    let numbers = x.attribute_numbers(attribute);
+    match x.attribute_form(attribute) {
+        names::DIVISOR => div_by_rule(
+            value,
+            view,
+            cells::at(numbers, 0),
+            number_at(x, attribute, 1),
+            number_at(x, attribute, 2),
+        ),
+        names::SIZES => same_elements_rule(value, numbers),
+        names::ENDPOINTS => bounded_rule(
+            sheet,
+            value,
+            number_at(x, attribute, 0),
+            number_at(x, attribute, 1),
+        ),
+        _ => Ok(()),
     }
 }
 
-fn is_tensor_view(t: &[u64], n: Counts, typed: Option<u64>) -> bool
-    ensures { result ≡ is_tensor_view t.now n typed }
+fn is_tensor_view(x: &Tables<'_>, typed: Option<u64>) -> bool
+    ensures { result ≡ is_tensor_view x.now.t x.now.counts typed }
 {
-    match typed {
-        Some(id) => tables::type_form(t, n, id) == TENSOR_VIEW,
-        None => false,
-    }
+    matches!(typed, Some(id) if x.type_form(id) == TENSOR_VIEW)
 }
 
 // The arm of Assume.
-pub fn assume(
-    t: &[u64],
-    v: &[u64],
-    o: &[u32],
-    a: &[u32],
-    l: &[u64],
-    sheet: &[u64],
-    n: Counts,
-    operation: u64,
-) -> Verdict
-    ensures { result ≡ assume_in t.now v.now o.now a.now l.now sheet.now n operation }
+#[tactic(auto, using(crate::proofs::Turns::turn, crate::proofs::Turns::turns_end), unfolding(crate::specs::Assume::assume_in))]
+pub fn assume(x: &Tables<'_>, sheet: &[u64], operation: u64) -> Verdict
+    ensures { result ≡ assume_arm sheet.now x.now operation }
 {
-    let value = lookups::operand_tile(t, v, o, l, sheet, n, operation, 0);
-    let view = is_tensor_view(t, n, lookups::operand_type(v, o, l, n, operation, 0));
-    let span = tables::attributes(o, n, operation);
-    let mut k = span.start;
-    let mut left = span.len;
-    while 0 < left {
-        let rule = attribute_rule(a, l, sheet, n, value, view, k);
-        if !holds(rule) {
-            return rule;
-        }
-        k += 1;
-        left -= 1;
+    let value = lookups::operand_tile(x, sheet, operation, 0);
+    let view = is_tensor_view(x, lookups::operand_type(x, operation, 0));
+    let span = x.attributes(operation);
+    for k in span.start..span.start + span.len {
+        attribute_rule(x, sheet, value, view, k)?;
     }
     Ok(())
 }
