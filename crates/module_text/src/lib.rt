@@ -1,7 +1,7 @@
 // A whole module text in the house form, read into the lent tables.
 #![tactic(auto)]
 
-ghost use Rattle.std.specs.Prelude.{◌≡◌, ◌+◌, eqb, ltb, ◌&&◌, ◌||◌, Err};
+ghost use Rattle.std.specs.Prelude.{◌≡◌, ◌+◌, leb, ltb, ◌||◌};
 ghost use Rattle.tables.specs.Tables.{lent};
 ghost use Rattle.house.specs.House.{no_counts};
 ghost use Rattle.house.specs.Step.{state_of};

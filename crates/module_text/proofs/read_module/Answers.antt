@@ -10,22 +10,22 @@ use Rattle.module_text.specs.Whole.{lines_of}
 use Rattle.module_text.proofs.Ways.{next_line, no_line, house_is}
 use Rattle.module_text.proofs.read_module.Goals as goal
 
-pub loop-p-init : goal.loop-p-init
-loop-p-init c =
+pub loop-t-init : goal.loop-t-init
+loop-t-init c =
     (omega arith, refl, refl, refl, refl, refl, refl, refl, refl, refl)
 
 pub overflow_add-p : goal.overflow_add-p
 overflow_add-p c =
     omega (arith, c.if-text-e.false)
 
-pub loop-p-smaller : goal.loop-p-smaller
-loop-p-smaller c =
-    let l = c.loop-p in
+pub loop-t-smaller : goal.loop-t-smaller
+loop-t-smaller c =
+    let l = c.loop-t in
     omega (arith, c.if-text-e.false, l.invariant.0, end_ge 10 l.p _ c.args.text.now l.invariant.0 c.find-e.ensures)
 
-pub loop-p-preserved : goal.loop-p-preserved
-loop-p-preserved c =
-    let l = c.loop-p in
+pub loop-t-preserved : goal.loop-t-preserved
+loop-t-preserved c =
+    let l = c.loop-t in
     let r = c.take_line-s in (
       omega (arith, c.if-text-e.false),
       r.auto.t ∙ l.invariant.1,
@@ -41,13 +41,13 @@ loop-p-preserved c =
 
 pub overflow_sub-e : goal.overflow_sub-e
 overflow_sub-e c =
-    let l = c.loop-p in
+    let l = c.loop-t in
     omega (arith, end_ge 10 l.p _ c.args.text.now l.invariant.0 c.find-e.ensures)
 
 pub returns-then-text-e : goal.returns-then-text-e
 returns-then-text-e c =
     let p = c.args in
-    let l = c.loop-p in
+    let l = c.loop-t in
     no_line p.text.now l.p _ l.invariant.0 c.find-e.ensures _ _ _ l.invariant.9 c.if-text-e.true c.last_line.ensures
     ∙ ap (λ (y : State). lines_of y (split 10 p.text.now)) c.start-s.ensures
     ∙ house_is p.text.now (lent p.t.now p.v.now p.o.now p.a.now p.b.now p.r.now p.f.now p.l.now no_counts)
