@@ -2,9 +2,11 @@
 
 #![tactic(auto)]
 
+use std::fmt::{self, Write};
+
 const OUT: i32 = 1;
 
-const BITS: [u64; 12] = [
+static BITS: [u64; 12] = [
     0,
     1,
     2,
@@ -19,7 +21,7 @@ const BITS: [u64; 12] = [
     18446744073709551615,
 ];
 
-const NUMBERS: [i64; 15] = [
+static NUMBERS: [i64; 15] = [
     -9223372036854775808,
     -9223372036854775807,
     -4294967296,
@@ -38,7 +40,7 @@ const NUMBERS: [i64; 15] = [
 ];
 
 // The least and the greatest number of each width, and the number beyond each, where an i64 holds them.
-const ENDS: [i64; 28] = [
+static ENDS: [i64; 28] = [
     -9223372036854775808,
     -4611686018427387905,
     -4611686018427387904,
@@ -69,213 +71,125 @@ const ENDS: [i64; 28] = [
     9223372036854775807,
 ];
 
+// The widths that are asked.
+static WIDTHS: [u64; 11] = [0, 1, 2, 4, 8, 16, 32, 63, 64, 65, 18446744073709551615];
+
+// The standard output. A write that fails is passed over.
+#[derive(Drop)]
+struct Out;
+
+impl Write for Out {
+    fn write_str(&mut self, s: &str) -> fmt::Result {
+        io::write_all(OUT, s.as_bytes());
+        Ok(())
+    }
+}
+
+// What a yes or no is called.
+fn word(yes: bool) -> &'static str {
+    if yes { "yes" } else { "no" }
+}
+
+// A number, or the word for where there is none.
+#[derive(Clone, Copy)]
+struct Or(Option<i64>, &'static str);
+
+impl fmt::Display for Or {
+    fn fmt<W: Write>(&self, f: &mut fmt::Formatter<W>) -> fmt::Result {
+        match self.0 {
+            Some(number) => write!(f, "{number}"),
+            None => write!(f, "{}", self.1),
+        }
+    }
+}
+
+// Numbers with a comma between each two.
+#[derive(Clone, Copy)]
+struct List<'a>(&'a [i64]);
+
+impl fmt::Display for List<'_> {
+    fn fmt<W: Write>(&self, f: &mut fmt::Formatter<W>) -> fmt::Result {
+        for (i, number) in self.0.iter().enumerate() {
+            if 0 < i {
+                write!(f, ",")?;
+            }
+            write!(f, "{number}")?;
+        }
+        Ok(())
+    }
+}
+
 fn main() {
-    bit_lines(&BITS);
-    every_power();
-    widths(&ENDS);
-    pairs(&NUMBERS);
-    products();
+    let _ = lines(&mut Out);
 }
 
-fn widths(ends: &[i64]) {
-    width_lines(0, ends);
-    width_lines(1, ends);
-    width_lines(2, ends);
-    width_lines(4, ends);
-    width_lines(8, ends);
-    width_lines(16, ends);
-    width_lines(32, ends);
-    width_lines(63, ends);
-    width_lines(64, ends);
-    width_lines(65, ends);
-    width_lines(18446744073709551615, ends);
-}
-
-fn products() {
-    let square: [i64; 2] = [2147483648, 2147483648];
-    let leaves: [i64; 2] = [4294967296, 2147483648];
-    let zero_last: [i64; 3] = [4611686018427387904, 4, 0];
-    let zero_first: [i64; 3] = [0, 4611686018427387904, 4];
-    let ones = [1i64; 8];
-    product_line(&square);
-    product_line(&leaves);
-    product_line(&zero_last);
-    product_line(&zero_first);
-    product_line(&ones[..0]);
-    product_line(&ones);
-}
-
-fn bit_lines(bits: &[u64]) {
-    let mut i: usize = 0;
-    while i < bits.len() {
-        let x = bits[i];
-        power_line(x);
-        signed_line(x);
-        i += 1;
+fn lines(out: &mut Out) -> fmt::Result {
+    for &x in &BITS {
+        power(out, x)?;
+        signed(out, x)?;
     }
-}
-
-fn every_power() {
-    let mut k: u64 = 0;
-    while k < 64 {
-        power_line(1 << k);
-        k += 1;
+    for k in 0..u64::BITS {
+        power(out, 1 << k)?;
     }
-}
-
-fn width_lines(bits: u64, values: &[i64]) {
-    let mut i: usize = 0;
-    while i < values.len() {
-        let v = values[i];
-        width_line(bits, v);
-        i += 1;
+    for &bits in &WIDTHS {
+        widths(out, bits)?;
     }
-}
-
-fn pairs(numbers: &[i64]) {
-    let mut i: usize = 0;
-    while i < numbers.len() {
-        let a = numbers[i];
-        bits_line(a);
-        pair_lines(a, numbers);
-        i += 1;
+    for &a in &NUMBERS {
+        pairs(out, a)?;
     }
+    products(out)
 }
 
-fn pair_lines(a: i64, numbers: &[i64]) {
-    let mut i: usize = 0;
-    while i < numbers.len() {
-        let b = numbers[i];
-        times_line(a, b);
-        remainder_line(a, b);
-        i += 1;
-    }
-}
-
-fn power_line(x: u64) {
-    text(b"power\t");
-    count(x);
-    yes_or_no(arith::power_of_two(x));
+fn power(out: &mut Out, x: u64) -> fmt::Result {
+    writeln!(out, "power\t{x}\t{}", word(arith::power_of_two(x)))
 }
 
 // The number of the bits, and the bits of that number again.
-fn signed_line(bits: u64) {
+fn signed(out: &mut Out, bits: u64) -> fmt::Result {
     let z = arith::signed(bits);
-    text(b"signed\t");
-    count(bits);
-    text(b"\t");
-    number(z);
-    text(b"\t");
-    count(arith::bits_of(z));
-    text(b"\n");
+    writeln!(out, "signed\t{bits}\t{z}\t{}", arith::bits_of(z))
 }
 
-// The bits of the number, and the number of those bits again.
-fn bits_line(z: i64) {
-    let bits = arith::bits_of(z);
-    text(b"bits\t");
-    number(z);
-    text(b"\t");
-    count(bits);
-    text(b"\t");
-    number(arith::signed(bits));
-    text(b"\n");
-}
-
-fn width_line(bits: u64, v: i64) {
-    text(b"width\t");
-    count(bits);
-    text(b"\t");
-    number(v);
-    yes_or_no(arith::fits_width(bits, v));
-}
-
-fn times_line(a: i64, b: i64) {
-    text(b"times\t");
-    number(a);
-    text(b"\t");
-    number(b);
-    product(arith::times(a, b));
-}
-
-fn remainder_line(a: i64, b: i64) {
-    text(b"remainder\t");
-    number(a);
-    text(b"\t");
-    number(b);
-    text(b"\t");
-    match arith::remainder_of(a, b) {
-        Some(r) => {
-            number(r);
-        }
-        None => {
-            text(b"none");
-        }
+fn widths(out: &mut Out, bits: u64) -> fmt::Result {
+    for &v in &ENDS {
+        writeln!(
+            out,
+            "width\t{bits}\t{v}\t{}",
+            word(arith::fits_width(bits, v))
+        )?;
     }
-    text(b"\n");
+    Ok(())
 }
 
-fn product_line(dims: &[i64]) {
-    text(b"product\t");
-    list(dims);
-    product(arith::product_of(dims));
-}
-
-// The numbers with a comma between each two.
-fn list(numbers: &[i64]) {
-    let mut i: usize = 0;
-    while i < numbers.len() {
-        let v = numbers[i];
-        comma_after_first(i);
-        number(v);
-        i += 1;
+// The bits of the number, and the number of those bits again; then what it is with each number.
+fn pairs(out: &mut Out, a: i64) -> fmt::Result {
+    let bits = arith::bits_of(a);
+    writeln!(out, "bits\t{a}\t{bits}\t{}", arith::signed(bits))?;
+    for &b in &NUMBERS {
+        writeln!(out, "times\t{a}\t{b}\t{}", Or(arith::times(a, b), "leaves"))?;
+        writeln!(
+            out,
+            "remainder\t{a}\t{b}\t{}",
+            Or(arith::remainder_of(a, b), "none")
+        )?;
     }
+    Ok(())
 }
 
-fn comma_after_first(i: usize) {
-    if 0 < i {
-        text(b",");
-    }
+fn products(out: &mut Out) -> fmt::Result {
+    product(out, &[2147483648, 2147483648])?;
+    product(out, &[4294967296, 2147483648])?;
+    product(out, &[4611686018427387904, 4, 0])?;
+    product(out, &[0, 4611686018427387904, 4])?;
+    product(out, &[])?;
+    product(out, &[1; 8])
 }
 
-// The last field of a line.
-fn product(p: Option<i64>) {
-    text(b"\t");
-    match p {
-        Some(v) => {
-            number(v);
-        }
-        None => {
-            text(b"leaves");
-        }
-    }
-    text(b"\n");
-}
-
-// The last field of a line.
-fn yes_or_no(yes: bool) {
-    if yes {
-        text(b"\tyes\n");
-    } else {
-        text(b"\tno\n");
-    }
-}
-
-// A negative number is its bits less than 2^64: the difference wraps from 0.
-fn number(v: i64) {
-    let bits = arith::bits_of(v);
-    if v < 0 {
-        text(b"-");
-        count(std::num::wrapping_sub_u64(0, bits));
-    } else {
-        count(bits);
-    }
-}
-
-fn count(n: u64) {
-    io::print_decimal(OUT, n);
-}
-
-fn text(s: &[u8]) {
-    io::write_all(OUT, s);
+fn product(out: &mut Out, dims: &[i64]) -> fmt::Result {
+    writeln!(
+        out,
+        "product\t{}\t{}",
+        List(dims),
+        Or(arith::product_of(dims), "leaves")
+    )
 }

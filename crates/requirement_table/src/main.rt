@@ -2,189 +2,132 @@
 #![tactic(auto)]
 
 use requirements::{Architecture, Requirement, Unmet};
+use std::fmt::{self, Write};
 
 const OUT: i32 = 1;
 
-const TARGETS: [u64; 12] = [80, 86, 87, 88, 89, 90, 100, 103, 107, 110, 120, 121];
+static TARGETS: [u64; 12] = [80, 86, 87, 88, 89, 90, 100, 103, 107, 110, 120, 121];
 
-fn main() {
-    features();
-    targets();
-    opcodes();
-    kinds();
-    names(0);
-    names(23);
+// The standard output. A write that fails is passed over.
+#[derive(Drop)]
+struct Out;
+
+impl Write for Out {
+    fn write_str(&mut self, s: &str) -> fmt::Result {
+        io::write_all(OUT, s.as_bytes());
+        Ok(())
+    }
 }
 
-fn features() {
-    let mut feature: u64 = 0;
-    while feature < 35 {
-        text(b"feature\t");
-        count(feature);
-        requirement(requirements::feature_requirement(feature));
-        verdicts(feature, 2, &TARGETS);
-        verdicts(feature, 3, &TARGETS);
-        verdicts(feature, 4, &TARGETS);
-        text(b"\n");
-        feature += 1;
+// The rest of a line: what a feature requires, and none where no feature is asked.
+#[derive(Clone, Copy)]
+struct Needed(Option<Requirement>);
+
+impl fmt::Display for Needed {
+    fn fmt<W: Write>(&self, f: &mut fmt::Formatter<W>) -> fmt::Result {
+        let Some(requirement) = self.0 else {
+            return write!(f, "none");
+        };
+        write!(f, "13.{}\t", requirement.since)?;
+        match requirement.architecture {
+            Architecture::Any => write!(f, "any"),
+            Architecture::AtLeast(sm) => write!(f, "at least {sm}"),
+            Architecture::Only(sm) => write!(f, "only {sm}"),
+        }
     }
+}
+
+fn main() {
+    let _ = lines(&mut Out);
+}
+
+fn lines(out: &mut Out) -> fmt::Result {
+    for feature in 0..35 {
+        features(out, feature)?;
+    }
+    for sm in 0..140 {
+        writeln!(
+            out,
+            "target\t{sm}\t{}",
+            asks(requirements::target_requirement(sm))
+        )?;
+    }
+    for opcode in 0..105 {
+        writeln!(
+            out,
+            "opcode\t{opcode}\t{}",
+            asks(requirements::opcode_requirement(opcode))
+        )?;
+    }
+    for kind in 0..16 {
+        writeln!(
+            out,
+            "kind\t{kind}\t{}",
+            asks(requirements::scalar_requirement(kind))
+        )?;
+    }
+    attributes(out, 0)?;
+    attributes(out, 23)
+}
+
+fn features(out: &mut Out, feature: u64) -> fmt::Result {
+    let requirement = requirements::feature_requirement(feature);
+    write!(out, "feature\t{feature}\t{}", Needed(Some(requirement)))?;
+    for version in 2..5 {
+        write!(out, "\t")?;
+        for &sm in &TARGETS {
+            out.write_str(letter(requirements::requirement_met(feature, version, sm)))?;
+        }
+    }
+    writeln!(out)
 }
 
 // One letter a target: met, version too low, architecture not met.
-fn verdicts(feature: u64, version: u64, targets: &[u64]) {
-    text(b"\t");
-    let mut i: usize = 0;
-    while i < targets.len() {
-        let sm = targets[i];
-        letter(requirements::requirement_met(feature, version, sm));
-        i += 1;
-    }
-}
-
-fn letter(met: Result<(), Unmet>) {
+fn letter(met: Result<(), Unmet>) -> &'static str {
     match met {
-        Ok(()) => {
-            text(b"+");
-        }
-        Err(Unmet::VersionLow) => {
-            text(b"v");
-        }
-        Err(Unmet::ArchitectureNot) => {
-            text(b"a");
-        }
+        Ok(()) => "+",
+        Err(Unmet::VersionLow) => "v",
+        Err(Unmet::ArchitectureNot) => "a",
     }
 }
 
-fn targets() {
-    let mut sm: u64 = 0;
-    while sm < 140 {
-        text(b"target\t");
-        count(sm);
-        needed(requirements::target_requirement(sm));
-        sm += 1;
-    }
+// What is asked, as a requirement.
+fn asks(asked: Option<u64>) -> Needed {
+    Needed(asked.map(|feature| requirements::feature_requirement(feature)))
 }
 
-fn opcodes() {
-    let mut opcode: u64 = 0;
-    while opcode < 105 {
-        text(b"opcode\t");
-        count(opcode);
-        needed(requirements::opcode_requirement(opcode));
-        opcode += 1;
-    }
-}
-
-fn kinds() {
-    let mut kind: u64 = 0;
-    while kind < 16 {
-        text(b"kind\t");
-        count(kind);
-        needed(requirements::scalar_requirement(kind));
-        kind += 1;
-    }
-}
-
-// What is asked, as a requirement: the rest of a line.
-fn needed(asked: Option<u64>) {
-    match asked {
-        Some(feature) => {
-            requirement(requirements::feature_requirement(feature));
-        }
-        None => {
-            text(b"\tnone");
+fn attributes(out: &mut Out, opcode: u64) -> fmt::Result {
+    for name in 0..14 {
+        for form in 0..9 {
+            numbers(out, opcode, name, form)?;
         }
     }
-    text(b"\n");
-}
-
-fn requirement(r: Requirement) {
-    text(b"\t13.");
-    count(r.since);
-    let architecture = r.architecture;
-    match architecture {
-        Architecture::Any => {
-            text(b"\tany");
-        }
-        Architecture::AtLeast(sm) => {
-            text(b"\tat least ");
-            count(sm);
-        }
-        Architecture::Only(sm) => {
-            text(b"\tonly ");
-            count(sm);
-        }
-    }
-}
-
-fn names(opcode: u64) {
-    let mut name: u64 = 0;
-    while name < 14 {
-        forms(opcode, name);
-        name += 1;
-    }
-}
-
-fn forms(opcode: u64, name: u64) {
-    let mut form: u64 = 0;
-    while form < 9 {
-        numbers(opcode, name, form);
-        form += 1;
-    }
-}
-
-fn numbers(opcode: u64, name: u64, form: u64) {
-    let mut number: u64 = 0;
-    while number < 8 {
-        attribute(opcode, name, form, number);
-        number += 1;
-    }
+    Ok(())
 }
 
 // A bool is 0 or 1; a list of bools is lent with a 0 before the number.
-fn attribute(opcode: u64, name: u64, form: u64, number: u64) {
-    let one: [u64; 1] = [number];
-    let two: [u64; 2] = [0, number];
-    if form == names::BOOLS {
-        if number < 2 {
-            attribute_line(opcode, name, form, number, &two);
+fn numbers(out: &mut Out, opcode: u64, name: u64, form: u64) -> fmt::Result {
+    for number in 0..8 {
+        match form {
+            names::BOOL | names::BOOLS if 1 < number => {}
+            names::BOOLS => attribute(out, opcode, name, form, number, &[0, number])?,
+            _ => attribute(out, opcode, name, form, number, &[number])?,
         }
-        return;
     }
-    if form == names::BOOL {
-        if number < 2 {
-            attribute_line(opcode, name, form, number, &one);
-        }
-        return;
-    }
-    attribute_line(opcode, name, form, number, &one);
+    Ok(())
 }
 
-fn attribute_line(opcode: u64, name: u64, form: u64, number: u64, entries: &[u64]) {
-    text(b"attribute\t");
-    count(opcode);
-    text(b"\t");
-    count(name);
-    text(b"\t");
-    count(form);
-    text(b"\t");
-    count(number);
+fn attribute(
+    out: &mut Out,
+    opcode: u64,
+    name: u64,
+    form: u64,
+    number: u64,
+    entries: &[u64],
+) -> fmt::Result {
+    write!(out, "attribute\t{opcode}\t{name}\t{form}\t{number}\t")?;
     match requirements::attribute_feature(opcode, name, form, entries) {
-        Some(feature) => {
-            text(b"\t");
-            count(feature);
-        }
-        None => {
-            text(b"\tnone");
-        }
+        Some(feature) => writeln!(out, "{feature}"),
+        None => writeln!(out, "none"),
     }
-    text(b"\n");
-}
-
-fn count(n: u64) {
-    io::print_decimal(OUT, n);
-}
-
-fn text(s: &[u8]) {
-    io::write_all(OUT, s);
 }
