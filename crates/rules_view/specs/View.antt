@@ -1,6 +1,6 @@
 -- The arm of LoadViewTko, StoreViewTko and AtomicRedViewTko. `id` is the view's type, `view` the tile that it takes and gives, and `value`
 -- the tile that is loaded or stored.
-use Rattle.std.specs.Prelude.{ℕ, ◌+◌, ◌/◌, ◌%◌, ◌^◌, Bool, true, false, not, cond, ◌&&◌, ◌||◌, List, [], ◌∷◌, eqb, ltb, leb, Option, Some, None, Ok, Err}
+use Rattle.std.specs.Prelude.{ℕ, ◌+◌, ◌/◌, ◌%◌, ◌^◌, Bool, not, cond, ◌&&◌, ◌||◌, List, [], ◌∷◌, eqb, ltb, leb, Option, Some, None, Ok, Err}
 use Rattle.cells.specs.Lists.{below}
 use Rattle.names.specs.Names.{mode, memory_ordering_semantics, memory_scope}
 use Rattle.tables.specs.Layout.{opcode_in, form_in, padded_in, sparse_in}
@@ -13,8 +13,8 @@ use Rattle.tiles.specs.Rules.{is_axis_index}
 use Rattle.tiles.specs.declared.Tile.{Tile}
 use Rattle.lookups.specs.Lookup.{integer_in, segment_in, is_absent, is_some, number_or}
 use Rattle.lookups.specs.Typed.{operand_type_in, operand_tile_in, result_tile_in}
-use Rattle.lookups.specs.Verdict.{Verdict, fail_if}
-use Rattle.lookups.specs.declared.Fault.TheVariants.{Broken, Leaves}
+use Rattle.lookups.specs.Verdict.{Verdict, fail_if, or_else}
+use Rattle.lookups.specs.declared.Fault.TheVariants.{Broken}
 
 -- "Opcodes are positions 0 to 104 in `OPCODES`"
 abbrev pub load_view : ℕ
@@ -71,18 +71,7 @@ index_rule index view axis sparse element =
 unfoldable pub element_after : Tile → Bool → Option ℕ → Option ℕ
 element_after index sparse element = cond sparse element (Some index.kind)
 
--- the first answer that does not hold
-abbrev pub or_else : Verdict → Verdict → Verdict
-or_else (Ok tt) rest = rest
-or_else (Err (Broken reason)) rest = Err (Broken reason)
-or_else (Err Leaves) rest = Err Leaves
-
-abbrev pub is_holds : Verdict → Bool
-is_holds (Ok tt) = true
-is_holds (Err (Broken reason)) = false
-is_holds (Err Leaves) = false
-
--- the indices of these axes, in turn
+-- the indices of these axes, in turn: the first answer that does not hold
 abbrev pub indices_from : (ℕ → Tile) → Tile → (ℕ → Bool) → List ℕ → Option ℕ → Verdict
 indices_from index view sparse [] element = Ok tt
 indices_from index view sparse (k ∷ ks) element =

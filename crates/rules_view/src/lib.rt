@@ -1,12 +1,11 @@
 // The operation rule of LoadViewTko, StoreViewTko and AtomicRedViewTko. The arm answers on any tables.
-#![tactic(auto)]
+#![tactic(auto, unfolding(lookups::specs::Verdict::fail_if))]
 
-ghost use Rattle.std.specs.Prelude.{◌≡◌, eqb, leb};
-ghost use Rattle.lookups.specs.Lookup.{is_absent, is_some};
-ghost use Rattle.rules_view.specs.View.{view_place, index_start, segment_place, is_other_tile, is_no_reduction, takes_kind, is_mode_wrong, is_count_wrong, is_order_wrong, is_other_kind, index_rule, element_after, is_holds, is_sparse_axis, value_in, indices_rule, view_by, view_rule, view_arm_in};
+ghost use Rattle.std.specs.Prelude.{◌≡◌, ◌≤◌};
+ghost use Rattle.rules_view.specs.View.{view_place, index_start, segment_place, is_other_tile, is_no_reduction, is_mode_wrong, is_count_wrong, is_order_wrong, is_other_kind, index_rule, element_after, is_sparse_axis, value_in, indices_rule, view_by, view_rule, view_arm};
 
-use lookups::{Fault, Verdict};
-use tables::Counts;
+use lookups::{Fault, Verdict, fail_if};
+use tables::Tables;
 use tiles::Tile;
 
 const LOAD_VIEW: u64 = 44;
@@ -22,347 +21,207 @@ const EXCHANGE: u64 = 9;
 
 // ---- where things stand, by the opcode
 
+#[tactic(auto, unfolding(crate::specs::View::view_place))]
 fn view_place(opcode: u64) -> u64
     ensures { result ≡ view_place opcode }
 {
     if opcode == STORE_VIEW { 1 } else { 0 }
 }
 
+#[tactic(auto, unfolding(crate::specs::View::index_start))]
 fn index_start(opcode: u64) -> u64
-    ensures { result ≡ index_start opcode }
+    ensures place { result ≡ index_start opcode }
+    ensures small { result ≤ 2 }
 {
     if opcode == STORE_VIEW { 2 } else { 1 }
 }
 
+#[tactic(auto, unfolding(crate::specs::View::segment_place))]
 fn segment_place(opcode: u64) -> u64
     ensures { result ≡ segment_place opcode }
 {
-    if (opcode == LOAD_VIEW) | (opcode == ATOMIC_RED_VIEW) {
-        return 1;
+    match opcode {
+        LOAD_VIEW | ATOMIC_RED_VIEW => 1,
+        _ => 2,
     }
-    2
 }
 
 // ---- the tests
 
-// A number that is there and is this one.
-fn is_number(found: Option<u64>, number: u64) -> bool
-    ensures { result ≡ is_some (λ m. eqb m number) found }
+#[tactic(auto, unfolding(crate::specs::View::is_other_tile))]
+fn is_other_tile(value: Tile, view: Tile) -> bool
+    ensures { result ≡ is_other_tile value view }
 {
-    match found {
-        Some(m) => m == number,
-        None => false,
-    }
+    !tiles::same_shape(value, view) || !tiles::has_kind(value, view.kind)
 }
 
-// A number that is there and is at most this one.
-fn is_at_most(found: Option<u64>, most: u64) -> bool
-    ensures { result ≡ is_some (λ m. leb m most) found }
+#[tactic(auto, unfolding(crate::specs::View::is_no_reduction))]
+fn is_no_reduction(x: &Tables<'_>, operation: u64, opcode: u64, id: u64) -> bool
+    ensures { result ≡ is_no_reduction x.now.t x.now.o x.now.a x.now.l x.now.counts operation opcode id }
 {
-    match found {
-        Some(m) => m <= most,
-        None => false,
-    }
+    opcode == ATOMIC_RED_VIEW
+        && (x.type_form(id) == GATHER_SCATTER
+            || x.type_padded(id) != 0
+            || lookups::integer(x, operation, names::MODE) == Some(EXCHANGE))
 }
 
-fn is_absent(found: Option<u64>) -> bool
-    ensures { result ≡ is_absent found }
+// No mode, or one whose mask of the sheet has not this kind.
+#[tactic(auto, unfolding(crate::specs::View::is_mode_wrong, crate::specs::View::takes_kind, arith::specs::Bits::has_bit))]
+fn is_mode_wrong(x: &Tables<'_>, sheet: &[u64], operation: u64, opcode: u64, kind: u64) -> bool
+    ensures { result ≡ is_mode_wrong x.now.o x.now.a x.now.l sheet.now x.now.counts operation opcode kind }
 {
-    match found {
-        Some(_) => false,
+    if opcode != ATOMIC_RED_VIEW {
+        return false;
+    }
+    match lookups::integer(x, operation, names::MODE) {
+        Some(m) => !arith::has_bit(16, tables::mode_mask(sheet, m), kind),
         None => true,
     }
 }
 
-fn is_other_tile(value: Tile, view: Tile) -> bool
-    ensures { result ≡ is_other_tile value view }
+#[tactic(auto, unfolding(crate::specs::View::is_count_wrong))]
+fn is_count_wrong(x: &Tables<'_>, operation: u64, opcode: u64, view: Tile) -> bool
+    ensures { result ≡ is_count_wrong x.now.o x.now.a x.now.l x.now.counts operation opcode view }
 {
-    !tiles::same_shape(value, view) | !tiles::has_kind(value, view.kind)
+    lookups::segment(x, operation, segment_place(opcode)) != Some(tiles::rank(view))
 }
 
-fn is_no_reduction(
-    t: &[u64],
-    o: &[u32],
-    a: &[u32],
-    l: &[u64],
-    n: Counts,
-    operation: u64,
-    opcode: u64,
-    id: u64,
-) -> bool
-    ensures { result ≡ is_no_reduction t.now o.now a.now l.now n operation opcode id }
+#[tactic(auto, unfolding(crate::specs::View::is_order_wrong))]
+fn is_order_wrong(x: &Tables<'_>, operation: u64, opcode: u64) -> bool
+    ensures { result ≡ is_order_wrong x.now.o x.now.a x.now.l x.now.counts operation opcode }
 {
-    if opcode != ATOMIC_RED_VIEW {
-        return false;
-    }
-    let form = tables::type_form(t, n, id);
-    let padded = tables::type_padded(t, n, id);
-    let mode = lookups::integer(o, a, l, n, operation, names::MODE);
-    (form == GATHER_SCATTER) | (padded != 0) | is_number(mode, EXCHANGE)
-}
-
-// The sheet's mask for a mode has this kind.
-fn takes_kind(sheet: &[u64], kind: u64, mode: u64) -> bool
-    ensures { result ≡ takes_kind sheet.now kind mode }
-{
-    if 16 <= kind {
-        return false;
-    }
-    (tables::mode_mask(sheet, mode) >> kind) % 2 == 1
-}
-
-fn is_mode_wrong(
-    o: &[u32],
-    a: &[u32],
-    l: &[u64],
-    sheet: &[u64],
-    n: Counts,
-    operation: u64,
-    opcode: u64,
-    kind: u64,
-) -> bool
-    ensures { result ≡ is_mode_wrong o.now a.now l.now sheet.now n operation opcode kind }
-{
-    if opcode != ATOMIC_RED_VIEW {
-        return false;
-    }
-    let Some(m) = lookups::integer(o, a, l, n, operation, names::MODE) else {
-        return true;
+    let order = lookups::integer(x, operation, names::MEMORY_ORDERING_SEMANTICS).unwrap_or(0);
+    let scope = lookups::integer(x, operation, names::MEMORY_SCOPE);
+    let wrong = match opcode {
+        LOAD_VIEW => 2 < order,
+        ATOMIC_RED_VIEW => order != 1 || !matches!(scope, Some(0..=1)),
+        _ => !matches!(order, 0 | 1 | 3),
     };
-    !takes_kind(sheet, kind, m)
-}
-
-fn is_count_wrong(
-    o: &[u32],
-    a: &[u32],
-    l: &[u64],
-    n: Counts,
-    operation: u64,
-    opcode: u64,
-    view: Tile,
-) -> bool
-    ensures { result ≡ is_count_wrong o.now a.now l.now n operation opcode view }
-{
-    let count = lookups::segment(o, a, l, n, operation, segment_place(opcode));
-    !is_number(count, tiles::rank(view))
-}
-
-fn is_order_wrong(o: &[u32], a: &[u32], l: &[u64], n: Counts, operation: u64, opcode: u64) -> bool
-    ensures { result ≡ is_order_wrong o.now a.now l.now n operation opcode }
-{
-    let ordering = lookups::integer(o, a, l, n, operation, names::MEMORY_ORDERING_SEMANTICS);
-    let order = lookups::number_or(ordering, 0);
-    let scope = lookups::integer(o, a, l, n, operation, names::MEMORY_SCOPE);
-    ((opcode == LOAD_VIEW) & !(order <= 2))
-        | (!(opcode == LOAD_VIEW) & !((order == 0) | (order == 1) | (order == 3)))
-        | ((opcode == ATOMIC_RED_VIEW) & (!(order == 1) | !is_at_most(scope, 1)))
-        | ((order == 0) & !is_absent(scope))
-        | (!(order == 0) & !is_at_most(scope, 2))
+    let unscoped = if order == 0 {
+        scope.is_some()
+    } else {
+        !matches!(scope, Some(0..=2))
+    };
+    wrong || unscoped
 }
 
 // ---- the indices
 
 // A kind that was seen before, and is another.
+#[tactic(auto, unfolding(crate::specs::View::is_other_kind))]
 fn is_other_kind(element: Option<u64>, kind: u64) -> bool
     ensures { result ≡ is_other_kind element kind }
 {
-    match element {
-        Some(k) => !(k == kind),
-        None => false,
-    }
+    element.is_some_and(|k| k != kind)
 }
 
 // What the index of an axis has to be.
+#[tactic(auto, unfolding(crate::specs::View::index_rule, lookups::specs::Verdict::fail_if))]
 fn index_rule(index: Tile, view: Tile, axis: u64, sparse: bool, element: Option<u64>) -> Verdict
     ensures { result ≡ index_rule index view axis sparse element }
 {
-    if !tiles::is_tile(index) {
-        return Err(Fault::Broken(8));
-    }
-    if !tiles::is_integers(index) {
-        return Err(Fault::Broken(9));
-    }
+    fail_if(!tiles::is_tile(index), 8)?;
+    fail_if(!tiles::is_integers(index), 9)?;
     if sparse {
-        if !tiles::is_axis_index(index, view, axis) {
-            return Err(Fault::Broken(10));
-        }
-        return Ok(());
+        return fail_if(!tiles::is_axis_index(index, view, axis), 10);
     }
-    if tiles::rank(index) != 0 {
-        return Err(Fault::Broken(11));
-    }
-    if is_other_kind(element, index.kind) {
-        return Err(Fault::Broken(12));
-    }
-    Ok(())
+    fail_if(tiles::rank(index) != 0, 11)?;
+    fail_if(is_other_kind(element, index.kind), 12)
 }
 
 // The kind of the dense indices, once this one is seen.
+#[tactic(auto, unfolding(crate::specs::View::element_after))]
 fn element_after(index: Tile, sparse: bool, element: Option<u64>) -> Option<u64>
     ensures { result ≡ element_after index sparse element }
 {
-    if sparse {
-        return element;
-    }
-    Some(index.kind)
+    if sparse { element } else { Some(index.kind) }
 }
 
-fn holds(verdict: Verdict) -> bool
-    ensures { result ≡ is_holds verdict }
+#[tactic(auto, unfolding(crate::specs::View::is_sparse_axis))]
+fn is_sparse_axis(x: &Tables<'_>, id: u64, axis: u64) -> bool
+    ensures { result ≡ is_sparse_axis x.now.t x.now.counts id axis }
 {
-    match verdict {
-        Ok(()) => true,
-        Err(Fault::Broken(_)) => false,
-        Err(Fault::Leaves) => false,
-    }
-}
-
-fn is_sparse_axis(t: &[u64], n: Counts, id: u64, axis: u64) -> bool
-    ensures { result ≡ is_sparse_axis t.now n id axis }
-{
-    (tables::type_form(t, n, id) == GATHER_SCATTER) & (tables::type_sparse(t, n, id) == axis)
+    x.type_form(id) == GATHER_SCATTER && x.type_sparse(id) == axis
 }
 
 // ---- the arm
 
 // The tile that is loaded, reduced into the view, or stored.
-fn value_tile(
-    t: &[u64],
-    v: &[u64],
-    o: &[u32],
-    l: &[u64],
-    sheet: &[u64],
-    n: Counts,
-    operation: u64,
-    opcode: u64,
-    view: Tile,
-) -> Tile
-    ensures { result ≡ value_in t.now v.now o.now l.now sheet.now n operation opcode view }
+#[tactic(auto, using(tiles::proofs::Dims::rank_is), unfolding(crate::specs::View::value_in))]
+fn value_tile(x: &Tables<'_>, sheet: &[u64], operation: u64, opcode: u64, view: Tile) -> Tile
+    ensures { result ≡ value_in x.now.t x.now.v x.now.o x.now.l sheet.now x.now.counts operation opcode view }
 {
-    if opcode == LOAD_VIEW {
-        return lookups::result_tile(t, o, l, sheet, n, operation);
+    match opcode {
+        LOAD_VIEW => lookups::result_tile(x, sheet, operation),
+        ATOMIC_RED_VIEW => lookups::operand_tile(x, sheet, operation, 1 + tiles::rank(view)),
+        _ => lookups::operand_tile(x, sheet, operation, 0),
     }
-    if opcode == ATOMIC_RED_VIEW {
-        let place = 1 + tiles::rank(view);
-        return lookups::operand_tile(t, v, o, l, sheet, n, operation, place);
-    }
-    lookups::operand_tile(t, v, o, l, sheet, n, operation, 0)
 }
 
 // What the indices have to be, axis after axis.
+#[tactic(auto, using(tiles::proofs::Dims::rank_is, crate::proofs::Indices::turn, crate::proofs::Indices::turns_end, lookups::proofs::Rows::row_tile_by), unfolding(crate::specs::View::indices_rule, lookups::specs::Typed::operand_tile_in))]
 fn indices_rule(
-    t: &[u64],
-    v: &[u64],
-    o: &[u32],
-    l: &[u64],
+    x: &Tables<'_>,
     sheet: &[u64],
-    n: Counts,
     operation: u64,
     opcode: u64,
     id: u64,
     view: Tile,
 ) -> Verdict
-    ensures { result ≡ indices_rule t.now v.now o.now l.now sheet.now n operation opcode id view }
+    ensures { result ≡ indices_rule x.now.t x.now.v x.now.o x.now.l sheet.now x.now.counts operation opcode id view }
 {
     let start = index_start(opcode);
-    let rank = tiles::rank(view);
     let mut element = None;
-    let mut axis: u64 = 0;
-    while axis < rank {
-        let typed = lookups::operand_type(v, o, l, n, operation, start + axis);
-        let index = tiles::tile_of(lookups::row_by(t, sheet, n, typed));
-        let sparse = is_sparse_axis(t, n, id, axis);
-        let rule = index_rule(index, view, axis, sparse, element);
-        if !holds(rule) {
-            return rule;
-        }
+    for axis in 0..tiles::rank(view) {
+        let typed = lookups::operand_type(x, operation, start + axis);
+        let index = tiles::tile_of(lookups::row_by(x, sheet, typed));
+        let sparse = is_sparse_axis(x, id, axis);
+        index_rule(index, view, axis, sparse, element)?;
         element = element_after(index, sparse, element);
-        axis += 1;
     }
     Ok(())
 }
 
 // The arm, on the view's type, the tile that it takes and gives, and the value.
+#[tactic(auto, unfolding(crate::specs::View::view_by, lookups::specs::Verdict::fail_if))]
 fn view_by(
-    t: &[u64],
-    v: &[u64],
-    o: &[u32],
-    a: &[u32],
-    l: &[u64],
+    x: &Tables<'_>,
     sheet: &[u64],
-    n: Counts,
     operation: u64,
     opcode: u64,
     id: u64,
     view: Tile,
     value: Tile,
 ) -> Verdict
-    ensures { result ≡ view_by t.now v.now o.now a.now l.now sheet.now n operation opcode id view value }
+    ensures { result ≡ view_by x.now.t x.now.v x.now.o x.now.a x.now.l sheet.now x.now.counts operation opcode id view value }
 {
-    if !tiles::is_tile(view) {
-        return Err(Fault::Broken(2));
-    }
-    if !tiles::is_tile(value) {
-        return Err(Fault::Broken(3));
-    }
-    if is_other_tile(value, view) {
-        return Err(Fault::Broken(4));
-    }
-    if is_no_reduction(t, o, a, l, n, operation, opcode, id) {
-        return Err(Fault::Broken(5));
-    }
-    if is_mode_wrong(o, a, l, sheet, n, operation, opcode, view.kind) {
-        return Err(Fault::Broken(6));
-    }
-    if is_count_wrong(o, a, l, n, operation, opcode, view) {
-        return Err(Fault::Broken(7));
-    }
-    let rule = indices_rule(t, v, o, l, sheet, n, operation, opcode, id, view);
-    if !holds(rule) {
-        return rule;
-    }
-    if is_order_wrong(o, a, l, n, operation, opcode) {
-        return Err(Fault::Broken(13));
-    }
-    Ok(())
+    fail_if(!tiles::is_tile(view), 2)?;
+    fail_if(!tiles::is_tile(value), 3)?;
+    fail_if(is_other_tile(value, view), 4)?;
+    fail_if(is_no_reduction(x, operation, opcode, id), 5)?;
+    fail_if(is_mode_wrong(x, sheet, operation, opcode, view.kind), 6)?;
+    fail_if(is_count_wrong(x, operation, opcode, view), 7)?;
+    indices_rule(x, sheet, operation, opcode, id, view)?;
+    fail_if(is_order_wrong(x, operation, opcode), 13)
 }
 
 // The arm, on the view's type.
-fn view_rule(
-    t: &[u64],
-    v: &[u64],
-    o: &[u32],
-    a: &[u32],
-    l: &[u64],
-    sheet: &[u64],
-    n: Counts,
-    operation: u64,
-    opcode: u64,
-    id: u64,
-) -> Verdict
-    ensures { result ≡ view_rule t.now v.now o.now a.now l.now sheet.now n operation opcode id }
+#[tactic(auto, unfolding(crate::specs::View::view_rule))]
+fn view_rule(x: &Tables<'_>, sheet: &[u64], operation: u64, opcode: u64, id: u64) -> Verdict
+    ensures { result ≡ view_rule x.now.t x.now.v x.now.o x.now.a x.now.l sheet.now x.now.counts operation opcode id }
 {
-    let view = tiles::view_tile(t, n, id);
-    let value = value_tile(t, v, o, l, sheet, n, operation, opcode, view);
-    view_by(t, v, o, a, l, sheet, n, operation, opcode, id, view, value)
+    let view = tiles::view_tile(x, id);
+    let value = value_tile(x, sheet, operation, opcode, view);
+    view_by(x, sheet, operation, opcode, id, view, value)
 }
 
 // The arm of LoadViewTko, StoreViewTko and AtomicRedViewTko.
-pub fn view_access(
-    t: &[u64],
-    v: &[u64],
-    o: &[u32],
-    a: &[u32],
-    l: &[u64],
-    sheet: &[u64],
-    n: Counts,
-    operation: u64,
-) -> Verdict
-    ensures { result ≡ view_arm_in t.now v.now o.now a.now l.now sheet.now n operation }
+#[tactic(auto, unfolding(crate::specs::View::view_arm_in))]
+pub fn view_access(x: &Tables<'_>, sheet: &[u64], operation: u64) -> Verdict
+    ensures { result ≡ view_arm sheet.now x.now operation }
 {
-    let opcode = tables::opcode(o, n, operation);
-    let Some(id) = lookups::operand_type(v, o, l, n, operation, view_place(opcode)) else {
-        return Err(Fault::Broken(1));
-    };
-    view_rule(t, v, o, a, l, sheet, n, operation, opcode, id)
+    let opcode = x.opcode(operation);
+    let typed = lookups::operand_type(x, operation, view_place(opcode));
+    let id = typed.ok_or(Fault::Broken(1))?;
+    view_rule(x, sheet, operation, opcode, id)
 }
