@@ -11,7 +11,7 @@ use native.Mathlib.Numerals.{add-one}
 use Rattle.cells.proofs.Rows.{lt_or_ge, drop_min}
 use mathlib.Core.Logic.{⊎_elim}
 use lib.ListN.{length, set, take, drop, get_or, length-set, length-take, length-drop, drop_of_length-le, take-append-drop}
-use lib.Seq.{drop-cons, drop-drop, take_all, take-length, take-suc-set, drop-set-lt}
+use lib.Seq.{drop-cons, take_all, take-length, take-suc-set, drop-set-lt}
 use Rattle.io.specs.Counts.{IsPrefixLen}
 use Rattle.printing.specs.Laid.{State, state, pushed, laid}
 use Rattle.printing.specs.Lines.{digit_of, decimal_in, decimal, mark_at, others, parted, line, lines}
@@ -96,22 +96,21 @@ take_min k xs = ⊎_elim
     (lt_or_ge k (length xs))
 
 -- the line of one function, and those that follow
-module _ (letter outer width i start m : ℕ) (lengths list : List ℕ) (s : State) where
-  pub lines_step : i < length lengths → m ≡ min (get_or lengths i 0 * width + 0) (length list - start) →
-      laid (lines letter outer width i (drop i lengths) (drop start list)) s
-      ≡ laid (lines letter outer width (i + 1) (drop (i + 1) lengths) (drop (start + m) list)) (laid (line letter outer i (take m (drop start list))) s)
+module _ (letter outer width i m : ℕ) (lengths xs : List ℕ) (s : State) where
+  pub lines_step : i < length lengths → m ≡ min (get_or lengths i 0 * width + 0) (length xs) →
+      laid (lines letter outer width i (drop i lengths) xs) s
+      ≡ laid (lines letter outer width (i + 1) (drop (i + 1) lengths) (drop m xs)) (laid (line letter outer i (take m xs)) s)
   unfolding lines
   lines_step h e =
       let k = get_or lengths i 0 * width in
-      let xs = drop start list in
-      let cut : m ≡ min k (length xs) = e ∙ rw length-drop (omega arith) in
+      let cut : m ≡ min k (length xs) = omega arith in
       let head : take k xs ≡ take m xs = sym (ap (λ (j : ℕ). take j xs) cut ∙ take_min k xs) in
-      let tail : drop k xs ≡ drop (start + m) list = sym (sym (drop-drop m start list) ∙ ap (λ (j : ℕ). drop j xs) cut ∙ drop_min xs k) in
+      let tail : drop k xs ≡ drop m xs = sym (ap (λ (j : ℕ). drop j xs) cut ∙ drop_min xs k) in
       ap (λ (l : List ℕ). laid (lines letter outer width i l xs) s) (drop-cons lengths i 0 h)
       ∙ laid_append (line letter outer i (take k xs)) (lines letter outer width (i + 1) (drop (suc i) lengths) (drop k xs)) s
       ∙ ap (λ (l : List ℕ). laid (lines letter outer width (i + 1) (drop (suc i) lengths) (drop k xs)) (laid (line letter outer i l) s)) head
       ∙ ap (λ (l : List ℕ). laid (lines letter outer width (i + 1) (drop (suc i) lengths) l) (laid (line letter outer i (take m xs)) s)) tail
-      ∙ ap (λ (j : ℕ). laid (lines letter outer width (i + 1) (drop j lengths) (drop (start + m) list)) (laid (line letter outer i (take m xs)) s)) (sym (add-one i))
+      ∙ ap (λ (j : ℕ). laid (lines letter outer width (i + 1) (drop j lengths) (drop m xs)) (laid (line letter outer i (take m xs)) s)) (sym (add-one i))
 
 pub lines_end : (letter outer width i : ℕ) (lengths list : List ℕ) (s : State) → length lengths ≤ i → laid (lines letter outer width i (drop i lengths) list) s ≡ s
 unfolding lines laid

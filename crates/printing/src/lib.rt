@@ -8,28 +8,13 @@ ghost use Rattle.printing.specs.Lines.{ok_line, decimal, digit_of, mark_at, part
 
 use tables::Numbers;
 
-const TAB: u8 = 9;
-
-const LF: u8 = 10;
-
-const COMMA: u8 = 44;
-
-const SEMICOLON: u8 = 59;
-
-const LETTER_K: u8 = 107;
-
-const LETTER_N: u8 = 110;
-
-const LETTER_O: u8 = 111;
-
-const LETTER_P: u8 = 112;
-
 // A number takes one cell of its list, a place three.
 const NUMBER_CELLS: u64 = 1;
 
 const PLACE_CELLS: u64 = 3;
 
 // One byte more, where there is room; where the next one goes.
+#[tactic(auto, unfolding(crate::specs::Laid::pushed))]
 fn push(out: &mut [u8], at: usize, byte: u8) -> usize
     ensures { state result out.new ≡ pushed (state at out.old) byte }
 {
@@ -44,7 +29,7 @@ fn push(out: &mut [u8], at: usize, byte: u8) -> usize
 fn digit(n: u64) -> u8
     ensures { result ≡ digit_of n }
 {
-    (48 + n % 10) as u8
+    b'0' + (n % 10) as u8
 }
 
 // A number as the house text writes it.
@@ -59,10 +44,11 @@ fn push_number(out: &mut [u8], at: usize, n: u64) -> usize
 }
 
 // What stands before entry i of a list: each third one starts a place.
+#[tactic(auto, unfolding(crate::specs::Lines::mark_at))]
 fn mark_at(outer: u8, i: usize) -> u8
     ensures { result ≡ mark_at outer i }
 {
-    if i % 3 == 0 { outer } else { COMMA }
+    if i % 3 == 0 { outer } else { b',' }
 }
 
 // A mark, then a number.
@@ -77,14 +63,12 @@ fn push_marked(out: &mut [u8], at: usize, mark: u8, n: u64) -> usize
 fn push_list(out: &mut [u8], at: usize, outer: u8, list: &[u64]) -> usize
     ensures { state result out.new ≡ laid (parted outer list.now) (state at out.old) }
 {
-    if list.len() == 0 {
+    if list.is_empty() {
         return at;
     }
     let mut next = push_number(out, at, list[0]);
-    let mut i = 1;
-    while i < list.len() {
+    for i in 1..list.len() {
         next = push_marked(out, next, mark_at(outer, i), list[i]);
-        i += 1;
     }
     next
 }
@@ -94,10 +78,10 @@ fn push_line(out: &mut [u8], at: usize, letter: u8, outer: u8, position: u64, li
     ensures { state result out.new ≡ laid (line letter outer position list.now) (state at out.old) }
 {
     let tagged = push(out, at, letter);
-    let placed = push_marked(out, tagged, TAB, position);
-    let parted = push(out, placed, TAB);
+    let placed = push_marked(out, tagged, b'\t', position);
+    let parted = push(out, placed, b'\t');
     let listed = push_list(out, parted, outer, list);
-    push(out, listed, LF)
+    push(out, listed, b'\n')
 }
 
 // The lines of all functions, each with as many entries of the list as it has; an entry takes so many cells.
@@ -113,25 +97,24 @@ fn push_lines(
     ensures { state result out.new ≡ laid (lines letter outer width 0 lengths.now list.now) (state at out.old) }
 {
     let mut next = at;
-    let mut start: usize = 0;
-    let mut i = 0;
-    while i < lengths.len() {
-        let left = (list.len() - start) as u64;
-        let end = start + cells::place(left, width, lengths[i], 0) as usize;
-        next = push_line(out, next, letter, outer, i as u64, &list[start..end]);
-        start = end;
-        i += 1;
+    let mut left = list;
+    for (i, &count) in lengths.iter().enumerate() {
+        let cells = cells::place(left.len() as u64, width, count, 0) as usize;
+        let (own, rest) = left.split_at(cells);
+        next = push_line(out, next, letter, outer, i as u64, own);
+        left = rest;
     }
     next
 }
 
 // `ok` and the end of its line.
+#[tactic(auto, unfolding(crate::specs::Laid::laid))]
 fn push_ok(out: &mut [u8], at: usize) -> usize
     ensures { state result out.new ≡ laid ok_line (state at out.old) }
 {
-    let o = push(out, at, LETTER_O);
-    let k = push(out, o, LETTER_K);
-    push(out, k, LF)
+    let o = push(out, at, b'o');
+    let k = push(out, o, b'k');
+    push(out, k, b'\n')
 }
 
 // A refusal: `no`, its code, id and detail. How many bytes it takes.
@@ -139,12 +122,12 @@ pub fn no_line(n: Numbers, out: &mut [u8]) -> usize
     ensures laid { state result out.new ≡ laid (no_line n) (state 0 out.old) }
     ensures room { IsPrefixLen result out.new }
 {
-    let first = push(out, 0, LETTER_N);
-    let tagged = push(out, first, LETTER_O);
-    let code = push_marked(out, tagged, TAB, n.code);
-    let id = push_marked(out, code, TAB, n.id);
-    let detail = push_marked(out, id, TAB, n.detail);
-    push(out, detail, LF)
+    let first = push(out, 0, b'n');
+    let tagged = push(out, first, b'o');
+    let code = push_marked(out, tagged, b'\t', n.code);
+    let id = push_marked(out, code, b'\t', n.id);
+    let detail = push_marked(out, id, b'\t', n.detail);
+    push(out, detail, b'\n')
 }
 
 // What is accepted: `ok`, and for each length the numbers of that function.
@@ -153,7 +136,7 @@ pub fn number_lines(numbers: &[u64], lengths: &[u64], out: &mut [u8]) -> usize
     ensures room { IsPrefixLen result out.new }
 {
     let next = push_ok(out, 0);
-    push_lines(out, next, LETTER_N, COMMA, NUMBER_CELLS, numbers, lengths)
+    push_lines(out, next, b'n', b',', NUMBER_CELLS, numbers, lengths)
 }
 
 // Numbers read back: `ok`, and for each length the places of that function's operands.
@@ -162,5 +145,5 @@ pub fn place_lines(places: &[u64], lengths: &[u64], out: &mut [u8]) -> usize
     ensures room { IsPrefixLen result out.new }
 {
     let next = push_ok(out, 0);
-    push_lines(out, next, LETTER_P, SEMICOLON, PLACE_CELLS, places, lengths)
+    push_lines(out, next, b'p', b';', PLACE_CELLS, places, lengths)
 }

@@ -1,5 +1,5 @@
 -- `push_lines` meets its contract. The loop's invariant: the lines still to be laid, from here, give all of them from the start.
-use Prim.Native.Nat.{◌-◌, ◌≤◌}
+use Prim.Native.Nat.{◌≤◌}
 use mathlib.Core.Path.{◌≡◌}
 use lib.ListN.{length, drop}
 use Rattle.printing.specs.Laid.{state, laid}
@@ -10,8 +10,4 @@ abbrev pub invariant-loop-i : goal.invariant-loop-i
 invariant-loop-i z =
     (length z.out ≡ length z.initial.out)
     × (z.i ≤ length z.lengths)
-    × (z.start ≤ length z.list)
-    × (laid (lines z.letter z.outer z.width z.i (drop z.i z.lengths) (drop z.start z.list)) (state z.next z.out) ≡ laid (lines z.letter z.outer z.width 0 z.lengths z.list) (state z.at z.initial.out))
-
-abbrev pub decreases-loop-i : goal.decreases-loop-i
-decreases-loop-i z = length z.lengths - z.i
+    × (laid (lines z.letter z.outer z.width z.i (drop z.i z.lengths) z.left) (state z.next z.out) ≡ laid (lines z.letter z.outer z.width 0 z.lengths z.list) (state z.at z.initial.out))

@@ -9,11 +9,11 @@ use Rattle.printing.specs.Lines.{decimal, others}
 use Rattle.printing.proofs.Laws.{parted_none, parted_first, others_step, others_end}
 use Rattle.printing.proofs.push_list.Goals as goal
 
-pub returns-then-list-eq0 : goal.returns-then-list-eq0
+pub returns-then-is_empty : goal.returns-then-is_empty
 unfolding laid
-returns-then-list-eq0 c =
+returns-then-is_empty c =
     let a = c.args in
-    sym (ap (λ (l : List ℕ). laid l (state a.at a.out.now)) (parted_none a.outer a.list.now c.if-list-eq0.true))
+    sym (ap (λ (l : List ℕ). laid l (state a.at a.out.now)) (parted_none a.outer a.list.now (grind arith)))
 
 pub loop-i-preserved : goal.loop-i-preserved
 loop-i-preserved c =

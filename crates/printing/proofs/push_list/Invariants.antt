@@ -11,6 +11,3 @@ invariant-loop-i z =
     (length z.out ≡ length z.initial.out)
     × (z.i ≤ length z.list)
     × (laid (others z.outer z.i (drop z.i z.list)) (state z.next z.out) ≡ laid (others z.outer 1 (drop 1 z.list)) (state z.initial.next z.initial.out))
-
-abbrev pub decreases-loop-i : goal.decreases-loop-i
-decreases-loop-i z = length z.list - z.i
