@@ -1,19 +1,23 @@
--- A search along numbers that follow each other, one number at a time. Assumes nothing.
-use Prim.Native.Nat.{ℕ, suc, ◌+◌, ◌-◌, ◌≤◌, ◌<◌}
-use native.Mathlib.Omega.{arith}
-use mathlib.Core.Path.{◌≡◌, ap, ◌∙◌}
-use mathlib.Core.Bool.{Bool, cond}
-use mathlib.Core.Option.{some, none}
+-- A search along numbers that follow each other is the library's along a range. Assumes nothing.
+use Prim.Native.Nat.{ℕ, zero, suc}
+use native.Mathlib.Numerals.{add-one}
+use mathlib.Core.Path.{◌≡◌, refl}
+use mathlib.Core.Bool.{Bool, true, false, cond}
+use mathlib.Core.Option.{some}
+use mathlib.Core.Option.{Option as Searched}
+use Rattle.std.specs.Prelude.{Option, Some, None, option_map}
+use Rattle.std.specs.List.{find as found_in, range_with_len}
 use Rattle.cells.specs.Lists.{from, find}
+use Rattle.lookups.specs.Lookup.{entered}
 
-module _ (p : ℕ → Bool) (k end : ℕ) where
-  pub find_step : k < end → find p (from k (end - k)) ≡ cond (p k) (some k) (find p (from (k + 1) (end - (k + 1))))
-  find_step h =
-      let e : end - k ≡ suc (end - (k + 1)) = omega arith in
-      let n : suc k ≡ k + 1 = omega arith in
-      ap (λ (m : ℕ). find p (from k m)) e ∙ ap (λ (j : ℕ). cond (p k) (some k) (find p (from j (end - (k + 1))))) n
+pub same : (r : Option ℕ) → option_map (λ (k : ℕ). k) r ≡ r
+same None = refl
+same (Some k) = refl
 
-  pub find_end : end ≤ k → find p (from k (end - k)) ≡ none
-  find_end h =
-      let e : end - k ≡ 0 = omega arith in
-      ap (λ (m : ℕ). find p (from k m)) e
+chosen : (b : Bool) (k : ℕ) {r : Option ℕ} (q : Searched ℕ) → r ≡ entered q → cond b (Some k) r ≡ entered (cond b (some k) q)
+chosen true k q e = refl
+chosen false k q e = e
+
+pub along : (p : ℕ → Bool) (k n : ℕ) → found_in p (range_with_len k n) ≡ entered (find p (from k n))
+along p k zero = refl
+along p k (suc n) = chosen (p k) k (find p (from (suc k) n)) (rw add-one (along p (suc k) n))

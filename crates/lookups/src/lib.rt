@@ -91,17 +91,12 @@ fn is_entry(x: &Tables<'_>, attribute: u64, name: u64, wanted: Wanted) -> bool
 }
 
 // The first attribute of an operation with this name that is as wanted.
-#[tactic(auto, using(crate::proofs::Search::find_step, crate::proofs::Search::find_end), unfolding(crate::specs::Lookup::entry_in))]
 pub fn find(x: &Tables<'_>, operation: u64, name: u64, wanted: Wanted) -> Option<u64>
     ensures { result ≡ entry_of x.now operation name wanted }
 {
     let span = x.attributes(operation);
-    for k in span.start..span.start + span.len {
-        if is_entry(x, k, name, wanted) {
-            return Some(k);
-        }
-    }
-    None
+    let mut ids = span.start..span.start + span.len;
+    ids.find(|k| is_entry(x, *k, name, wanted))
 }
 
 // The 64 bits of an operation's integer of this name.
