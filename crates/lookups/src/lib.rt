@@ -95,8 +95,7 @@ pub fn find(x: &Tables<'_>, operation: u64, name: u64, wanted: Wanted) -> Option
     ensures { result ≡ entry_of x.now operation name wanted }
 {
     let span = x.attributes(operation);
-    let mut ids = span.start..span.start + span.len;
-    ids.find(|k| is_entry(x, *k, name, wanted))
+    (span.start..span.start + span.len).find(|k| is_entry(x, *k, name, wanted))
 }
 
 // The 64 bits of an operation's integer of this name.
