@@ -1,7 +1,6 @@
 pub mod Stack
 pub mod Stage
 pub mod Visits
-pub mod Opened
 pub mod Room
 pub mod Whole
 pub mod Turns

@@ -1,106 +1,20 @@
--- The stack of live places: a place that is pushed, places that are taken back, and the place of a number. Assumes nothing.
-use Prim.Native.Nat.{ℕ, zero, suc, ◌+◌, ◌-◌, ◌*◌, ◌≤◌, ◌<◌}
+-- The live places: one that is pushed, those that are taken back, and the place of a number. Assumes nothing.
+use Prim.Native.Nat.{ℕ, zero, suc, ◌+◌, ◌-◌, ◌≤◌, ◌<◌, min}
 use native.Mathlib.Nat.{le_of_suc-le-suc}
 use native.Mathlib.Omega.{arith}
-use mathlib.Core.Path.{◌≡◌, refl, ap, sym, ◌∙◌, subst}
+use mathlib.Core.Path.{◌≡◌, refl, ap, sym, ◌∙◌}
 use mathlib.Core.Logic.{⊎_elim}
 use mathlib.Core.Option.{some, none}
 use mathlib.Core.List.{List, [], ◌∷◌, ◌++◌, map, append_assoc, append-nil}
-use lib.ListN.{length, get_or, length-set, length-append, get_or-append}
-use lib.Seq.{get_or-append_seam}
+use lib.ListN.{length, get_or, set, take, length-append, length-take}
+use lib.Seq.{get_or-take, take_all, take-append_seam}
 use borrow.Author.Tests.{lt-ltb, le-ltb}
-use Rattle.cells.specs.Cell.{cell, put_cell}
+use Rattle.cells.proofs.Rows.{lt_or_ge}
 use Rattle.cells.specs.Lists.{from, below}
-use Rattle.cells.proofs.Rows.{lt_or_ge, put_here, other_row, other_column}
-use Rattle.tables.specs.declared.Place.{Place}
-use Rattle.tables.specs.declared.Place.TheVariants.{Nowhere}
 use Rattle.ranges.proofs.Find.{from_step, from_end}
+use Rattle.tables.specs.declared.Place.{Place}
 use Rattle.nesting.specs.Live.{nth}
-use Rattle.read_back.specs.Stack.{grow, grow_all, Is, Shows}
-
--- a row that is written
-abbrev pub put_row : List ℕ → ℕ → ℕ → ℕ → ℕ → List ℕ
-put_row s k a b c = put_cell 3 (put_cell 3 (put_cell 3 s k 0 a) k 1 b) k 2 c
-
-module _ (s : List ℕ) (k a b c : ℕ) where
-  pub row_length : length (put_row s k a b c) ≡ length s
-  row_length = simp length-set
-
-  module _ (h : k * 3 + 2 < length s) where
-    first : cell 3 (put_row s k a b c) k 0 ≡ a
-    first =
-        other_column 3 (put_cell 3 (put_cell 3 s k 0 a) k 1 b) k 2 c k 0 (omega arith) (omega arith) (λ e. omega arith)
-        ∙ other_column 3 (put_cell 3 s k 0 a) k 1 b k 0 (omega arith) (omega arith) (λ e. omega arith)
-        ∙ put_here 3 s k 0 a (omega arith)
-
-    second : cell 3 (put_row s k a b c) k 1 ≡ b
-    second =
-        other_column 3 (put_cell 3 (put_cell 3 s k 0 a) k 1 b) k 2 c k 1 (omega arith) (omega arith) (λ e. omega arith)
-        ∙ put_here 3 (put_cell 3 s k 0 a) k 1 b (simp length-set (omega arith))
-
-    third : cell 3 (put_row s k a b c) k 2 ≡ c
-    third = put_here 3 (put_cell 3 (put_cell 3 s k 0 a) k 1 b) k 2 c (simp length-set h)
-
-  elsewhere : (j m : ℕ) → m < 3 → (j ≡ k → ⊥) → cell 3 (put_row s k a b c) j m ≡ cell 3 s j m
-  elsewhere j m l f =
-      other_row 3 (put_cell 3 (put_cell 3 s k 0 a) k 1 b) k 2 c j m (omega arith) l f
-      ∙ other_row 3 (put_cell 3 s k 0 a) k 1 b j m (omega arith) l f
-      ∙ other_row 3 s k 0 a j m (omega arith) l f
-
-module _ {stack : List ℕ} {next : ℕ} {live : List Place} (p : Place) (kind id index : ℕ) (is : Is p kind id index) (s : Shows stack next live) where
-  row : next < 8192 → (k : ℕ) → k < next + 1
-      → let t = put_row stack next kind id index in Is (get_or (live ++ (p ∷ [])) k Nowhere) (cell 3 t k 0) (cell 3 t k 1) (cell 3 t k 2)
-  row l k h = ⊎_elim
-      (λ g.
-      let o : (m : ℕ) → m < 3 → cell 3 (put_row stack next kind id index) k m ≡ cell 3 stack k m =
-      λ m q. elsewhere stack next kind id index k m q (λ e. omega arith) in
-      rw (o 0 (omega arith), o 1 (omega arith), o 2 (omega arith), get_or-append live (p ∷ []) Nowhere k (omega (arith, s.height)))
-      (s.rows k g))
-      (λ g.
-      let e : k ≡ length live = omega (arith, s.height) in
-      let f : k ≡ next = omega arith in
-      let w : next * 3 + 2 < length stack = omega (arith, s.room) in
-      let q : get_or (live ++ (p ∷ [])) k Nowhere ≡ p = ap (λ (j : ℕ). get_or (live ++ (p ∷ [])) j Nowhere) e ∙ get_or-append_seam live p [] Nowhere in
-      rw (q, f, first stack next kind id index w, second stack next kind id index w, third stack next kind id index w) is)
-      (lt_or_ge k next)
-
-  pub push_in : next < 8192 → Shows (put_row stack next kind id index) (next + 1) (grow live p)
-  push_in l =
-      let e : length live < 8192 = omega (arith, s.height) in
-      rw (lt-ltb (length live) 8192 e) (record {
-        room = rw (row_length stack next kind id index) s.room;
-        height = simp length-append (omega (arith, s.height));
-        few = omega arith;
-        rows = row l;
-      })
-
-  pub push_out : 8192 ≤ next → Shows stack next (grow live p)
-  push_out l = let e : 8192 ≤ length live = omega (arith, s.height) in rw (le-ltb (length live) 8192 e) s
-
--- ---- the places of one id, k of them pushed
-
-pub record Pushing (make : ℕ → Place) (count : ℕ) (live : List Place) (stack : List ℕ) (top k : ℕ) : Type 0 where
-  pub now : List Place
-  pub shows : Shows stack top now
-  pub left : grow_all now (map make (from k (count - k))) ≡ grow_all live (map make (below count))
-
-pub pushing_start : {stack : List ℕ} {next : ℕ} {live : List Place} (make : ℕ → Place) (count : ℕ) → Shows stack next live
-    → Pushing make count live stack next 0
-pushing_start {live = live} make count s =
-    let e : count - 0 ≡ count = omega arith in
-    record { now = live; shows = s; left = ap (λ (n : ℕ). grow_all live (map make (from 0 n))) e }
-
-module _ {make : ℕ → Place} {count : ℕ} {live : List Place} {stack : List ℕ} {top k : ℕ} (inv : Pushing make count live stack top k) where
-  pub pushing_step : {stack' : List ℕ} {top' : ℕ} → k < count
-      → ((l : List Place) → Shows stack top l → Shows stack' top' (grow l (make k))) → Pushing make count live stack' top' (k + 1)
-  pushing_step h f = record {
-    now = grow inv.now (make k);
-    shows = f inv.now inv.shows;
-    left = rw (from_step count k h) at inv.left;
-  }
-
-  pub pushing_end : count ≤ k → Shows stack top (grow_all live (map make (below count)))
-  pushing_end h = subst (Shows stack top) (rw (from_end count k h) at inv.left) inv.shows
+use Rattle.read_back.specs.Live.{grow, grow_all}
 
 -- ---- what was pushed lies above what was there
 
@@ -121,18 +35,8 @@ pub above_all : {base live : List Place} (ps : List Place) → Above base live �
 above_all {live = live} [] a = a
 above_all {base = base} {live = live} (p ∷ ps) a = above_all {live = grow live p} ps (above_one p a)
 
-pub shows_less : {stack : List ℕ} {next m : ℕ} {base live : List Place} → Above base live → length base ≡ m → Shows stack next live → Shows stack m base
-shows_less {stack} {next} {m} {base} {live} a e s =
-    let l : length live ≡ length base + length a.more = ap length a.is ∙ length-append base a.more in
-    record {
-      room = s.room;
-      height = e;
-      few = omega (arith, s.few, s.height);
-      rows = λ k h.
-          let g : get_or live k Nowhere ≡ get_or base k Nowhere =
-          ap (λ (z : List Place). get_or z k Nowhere) a.is ∙ get_or-append base a.more Nowhere k (omega arith) in
-          rw (← g) (s.rows k (omega (arith, s.height)));
-    }
+pub take_back : {base live : List Place} → Above base live → take (length base) live ≡ base
+take_back {base} {live} a = ap (take (length base)) a.is ∙ take-append_seam base a.more
 
 -- ---- where all has room, growing is concatenation
 
@@ -143,17 +47,42 @@ grown_plain live (p ∷ ps) h =
     rw (lt-ltb (length live) 8192 e)
     (grown_plain (live ++ (p ∷ [])) ps (rw (append_assoc live (p ∷ []) ps) h) ∙ append_assoc live (p ∷ []) ps)
 
--- ---- a number is a row
+-- ---- a number is a position
 
-pub nth_in : (live : List Place) (k : ℕ) → k < length live → nth live k ≡ some (get_or live k Nowhere)
-nth_in [] k h = absurd (omega arith)
-nth_in (p ∷ live) zero h = refl
-nth_in (p ∷ live) (suc k) h = nth_in live k (le_of_suc-le-suc h)
+nth_in : (live : List Place) (k : ℕ) (d : Place) → k < length live → nth live k ≡ some (get_or live k d)
+nth_in [] k d h = absurd (omega arith)
+nth_in (p ∷ live) zero d h = refl
+nth_in (p ∷ live) (suc k) d h = nth_in live k d (le_of_suc-le-suc h)
 
-pub nth_past : (live : List Place) (k : ℕ) → length live ≤ k → nth live k ≡ none
+nth_past : (live : List Place) (k : ℕ) → length live ≤ k → nth live k ≡ none
 nth_past [] k h = refl
 nth_past (p ∷ live) zero h = absurd (omega arith)
 nth_past (p ∷ live) (suc k) h = nth_past live k (le_of_suc-le-suc h)
 
-pub shows_none : (stack : List ℕ) → 24576 ≤ length stack → Shows stack 0 []
-shows_none stack h = record { room = h; height = refl; few = omega arith; rows = λ k q. absurd (omega arith) }
+-- ---- the first n places of a list with room are what is live
+
+module _ (xs : List Place) (n : ℕ) where
+  pub place_at : (k : ℕ) (d : Place) → k < n → n ≤ length xs → nth (take n xs) k ≡ some (get_or xs k d)
+  place_at k d h l =
+      nth_in (take n xs) k d (simp length-take (omega arith)) ∙ ap some (get_or-take n xs k d h)
+
+  pub no_place : (k : ℕ) → n ≤ k → nth (take n xs) k ≡ none
+  no_place k h = nth_past (take n xs) k (simp length-take (omega arith))
+
+-- ---- a place for each index, k of them pushed
+
+module _ (make : ℕ → Place) (count : ℕ) (live : List Place) where
+  abbrev pub Pushing : List Place → ℕ → Type 0
+  Pushing now k = grow_all now (map make (from k (count - k))) ≡ grow_all live (map make (below count))
+
+  pub pushing_start : Pushing live 0
+  pushing_start =
+      let e : count - 0 ≡ count = omega arith in
+      ap (λ (n : ℕ). grow_all live (map make (from 0 n))) e
+
+  module _ (now : List Place) (k : ℕ) (inv : Pushing now k) where
+    pub pushing_step : k < count → (p : Place) → p ≡ make k → (next : List Place) → next ≡ grow now p → Pushing next (k + 1)
+    pushing_step h p e next f = rw (f, e) (rw (from_step count k h) at inv)
+
+    pub pushing_end : count ≤ k → now ≡ grow_all live (map make (below count))
+    pushing_end h = rw (from_end count k h) at inv

@@ -31,7 +31,7 @@ use Rattle.nesting.proofs.Answers.{Lawful, join_fine}
 use Rattle.nesting.proofs.Folds.{fold_entries_lem}
 use Rattle.nesting.proofs.Grown.{entries_grown}
 use Rattle.read_back.specs.Alone.{spanned, kind_of, id_of, index_of, three_of}
-use Rattle.read_back.specs.Stack.{grow_all}
+use Rattle.read_back.specs.Live.{grow_all}
 use Rattle.read_back.specs.Stage.{Stage, stage, start, put_place, took, read_next, read_all, lists, entries_uses}
 use Rattle.read_back.proofs.Stack.{grown_plain}
 

@@ -1,3 +1,3 @@
 pub mod Alone
-pub mod Stack
+pub mod Live
 pub mod Stage

@@ -1,7 +1,7 @@
 -- Reading back on the way: how many numbers are read, the first refusal so far, and what the list holds.
 use Rattle.std.specs.Prelude.{ℕ, suc, ◌+◌, ◌≡◌, cond, List, [], ◌∷◌, ◌++◌, ltb, eqb, length, get_or, Ok, Err}
 use Rattle.std.proofs.Math.Option.{Option, some, none}
-use Rattle.cells.specs.Cell.{cell, put_cell}
+use Rattle.cells.specs.Cell.{put_cell}
 use Rattle.tables.specs.Tables.{Tables, regions}
 use Rattle.tables.specs.Answer.{and_then, Answer}
 use Rattle.tables.specs.declared.Place.{Place}
@@ -10,7 +10,7 @@ use Rattle.nesting.specs.Live.{placed, nth}
 use Rattle.nesting.specs.ReadBack.{Use, uses_at}
 use Rattle.nesting.specs.Ask.{Way, all, fold_block, fold_region, fold_entry, fold_entries}
 use Rattle.read_back.specs.Alone.{spanned, kind_of, id_of, index_of, Outcome, outcome}
-use Rattle.read_back.specs.Stack.{grow_all, Shows}
+use Rattle.read_back.specs.Live.{grow_all}
 use Rattle.read_back.specs.declared.Reading.{Reading}
 
 pub record Stage : Type 0 where
@@ -27,10 +27,6 @@ staged w held = stage w.at w.answer held
 -- a place in row k of the list
 abbrev pub put_place : List ℕ → ℕ → Place → List ℕ
 put_place held k p = put_cell 3 (put_cell 3 (put_cell 3 held k 0 (kind_of p)) k 1 (id_of p)) k 2 (index_of p)
-
--- row n of the stack in row k of the list
-abbrev pub copied_row : List ℕ → ℕ → List ℕ → ℕ → List ℕ
-copied_row stack n held k = put_cell 3 (put_cell 3 (put_cell 3 held k 0 (cell 3 stack n 0)) k 1 (cell 3 stack n 1)) k 2 (cell 3 stack n 2)
 
 -- the place that a number names is written; a number not below the count live is the operand's refusal, where there is none yet
 abbrev pub took : Option Place → ℕ → ℕ → Stage → Stage
@@ -83,6 +79,6 @@ unfoldable pub judged_all : Tables → List ℕ → List ℕ → Outcome
 judged_all x numbers held = judged (length numbers) (read_all numbers (start held) (entries_uses x))
 
 -- a visit that came to the stage s, with these places live
-pub record Went (w : Reading) (stack held : List ℕ) (live : List Place) (s : Stage) : Type 0 where
-  pub shows : Shows stack w.next live
+pub record Went (w : Reading) (held : List ℕ) (live : List Place) (s : Stage) : Type 0 where
+  pub lives : w.live ≡ live
   pub reached : staged w held ≡ s

@@ -1,9 +1,0 @@
--- `nested_region`: its list in range. Assumes nothing.
-use Rattle.ranges.specs.Entry.{good_region}
-use Rattle.tables.specs.Layout.{blocks_in}
-use Rattle.nesting_check.proofs.nested_region.Goals as goal
-
-pub returns : goal.returns
-unfolding good_region blocks_in
-returns c =
-    rw (c.good_list.ensures, c.blocks_span.ensures)
