@@ -1,4 +1,3 @@
-pub mod Scan
 pub mod Ranged
 pub mod Turns
 pub mod Laws

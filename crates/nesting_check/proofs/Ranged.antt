@@ -1,7 +1,7 @@
 -- Code 1 of the nesting: the passes in turn are the verdict, and what an accepted verdict says of the tables. Assumes nothing.
 use Prim.Native.Nat.{ℕ, zero, suc, ◌+◌, ◌≤◌, ◌<◌, min}
 use native.Mathlib.Omega.{arith}
-use mathlib.Core.Path.{◌≡◌, refl, ap, ◌∙◌}
+use mathlib.Core.Path.{◌≡◌, refl, sym, ap, ◌∙◌}
 use mathlib.Core.Bool.{Bool, true, ◌&&◌, not, and-eq-true_iff}
 use mathlib.Core.Logic.{⊎_elim}
 use mathlib.Core.Option.{Option, some, none}
@@ -16,18 +16,19 @@ use Rattle.cells.proofs.Rows.{lt_or_ge}
 use Rattle.tables.specs.Layout.{counted_span, regions_span_in, regions_in, operations_span_in, operations_in, blocks_span_in, blocks_in, functions_in}
 use Rattle.tables.specs.Tables.{Tables, functions, regions, blocks, operations, regions_span, blocks_span, operations_span, cut}
 use Rattle.tables.specs.Answer.{and_then, Answer}
-use Rattle.std.specs.Prelude.{Ok, Err}
+use Rattle.std.specs.Prelude.{Result, Ok, Err}
+use Rattle.tables.specs.Sizes.{max_operations, max_blocks, max_regions, max_functions, operation_table, block_table, region_table, function_table}
+use Rattle.tables.specs.declared.Refusal.TheVariants.{OutOfRange}
 use Rattle.tables.specs.declared.Refusal.{Refusal}
 use Rattle.ranges.specs.Entry.{good_region}
 use Rattle.ranges.specs.Range.{sum, room_at, stands, refused, first_bad, listed_by_operation, listed_by_block, listed_by_region}
-use Rattle.ranges.specs.Part.{tables_of_operations, tables_of_blocks, tables_of_regions, tables_of_functions, good_list}
+use Rattle.ranges.specs.Part.{good_list, first_of, scanned, scan_of}
+use Rattle.ranges.specs.declared.Pass.{Pass}
 use Rattle.ranges.specs.Ranged.{Below}
 use Rattle.ranges.proofs.Find.{all_pass, all_at}
 use Rattle.listed.specs.Twice.{listed_twice}
-use Rattle.listed.proofs.Answers.{ends, goes_on, both_accept}
+use Rattle.listed.proofs.Answers.{both_accept}
 use Rattle.nesting_check.specs.Checks.{nested_operation, nested_block, up_to_operations, up_to_blocks, nesting_ranges}
-use Rattle.nesting_check.specs.Scanned.{Scanned}
-use Rattle.nesting_check.specs.declared.Pass.{Pass}
 
 module _ (x : Tables) where
   -- the verdict on each table, and from each table on
@@ -49,51 +50,96 @@ module _ (x : Tables) where
   abbrev from_blocks : Answer
   from_blocks = and_then (on_blocks (up_to_operations x)) from_regions
 
-  module _ (o : Pass)
-      (s : let y = tables_of_operations x.o x.l x.counts in Scanned o 3 2048 16 x.o x.counts.operations (nested_operation y) (listed_by_operation y) 0) where
-    of_operations : o.answer ≡ on_operations
-    unfolding nested_operation
-    of_operations = s.answer
+  -- the tables as the passes over them see them
+  abbrev pub of_operations : Pass
+  of_operations = record { table = operation_table; size = max_operations; width = 16; cells = length x.o; count = x.counts.operations }
 
-    pub operations_stop : {r : Refusal} → o.answer ≡ Err r → Err r ≡ nesting_ranges x
+  abbrev pub of_blocks : Pass
+  of_blocks = record { table = block_table; size = max_blocks; width = 4; cells = length x.b; count = x.counts.blocks }
+
+  abbrev pub of_regions : Pass
+  of_regions = record { table = region_table; size = max_regions; width = 2; cells = length x.r; count = x.counts.regions }
+
+  abbrev pub of_functions : Pass
+  of_functions = record { table = function_table; size = max_functions; width = 1; cells = length x.f; count = x.counts.functions }
+
+-- ---- a pass over a table that holds lists, in the turn of the verdict with the tables after it
+
+module _ (table size width : ℕ) (cells : List ℕ) (n : ℕ) (good : ℕ → Bool) (listed : ℕ → ℕ) (before : ℕ) where
+  abbrev whole : Answer
+  whole = first_bad table size width cells n (λ i. good i && room_at before listed i)
+
+  module _ (s : Result ℕ Refusal)
+      (e : s ≡ scan_of (record { table = table; size = size; width = width; cells = length cells; count = n }) good listed before) where
+    pub scan_stops : (r : Refusal) → s ≡ Err r → whole ≡ Err r
+    unfolding scan_of first_bad
+    scan_stops r q = by_cases (find (λ i. not (stands size width cells i && (good i && room_at before listed i))) (below n)) (sym e ∙ q)
+      where
+        by_cases : (o : Option ℕ) → scanned table o (before + sum listed n) ≡ Err r → refused table o ≡ Err r
+        by_cases none z = absurd (let y : ◌≡◌ {A = ℕ} 0 1 = cc in omega arith)
+        by_cases (some i) z = let y : OutOfRange table i ≡ r = cc in ap Err y
+
+    pub scan_passes : (u : ℕ) → s ≡ Ok u → (whole ≡ Ok tt) × (u ≡ before + sum listed n)
+    unfolding scan_of first_bad
+    scan_passes u q = by_cases (find (λ i. not (stands size width cells i && (good i && room_at before listed i))) (below n)) (sym e ∙ q)
+      where
+        by_cases : (o : Option ℕ) → scanned table o (before + sum listed n) ≡ Ok u → (refused table o ≡ Ok tt) × (u ≡ before + sum listed n)
+        by_cases none z = (refl, cc)
+        by_cases (some i) z = absurd (let y : ◌≡◌ {A = ℕ} 0 1 = cc in omega arith)
+
+passed : (a b : Answer) → a ≡ Ok tt → and_then a b ≡ b
+passed a b e = ap (λ (c : Answer). and_then c b) e
+
+stopped : (a b : Answer) (r : Refusal) → a ≡ Err r → and_then a b ≡ Err r
+stopped a b r e = ap (λ (c : Answer). and_then c b) e
+
+module _ (x : Tables) (o : Result ℕ Refusal) (s : o ≡ scan_of (of_operations x) (nested_operation x) (listed_by_operation x) 0) where
+  pub operations_stop : (r : Refusal) → o ≡ Err r → Err r ≡ nesting_ranges x
+  unfolding nesting_ranges
+  operations_stop r q = sym (stopped (on_operations x) (from_blocks x) r (scan_stops 3 2048 16 x.o x.counts.operations _ _ 0 o s r q))
+
+  module _ (u : ℕ) (p : o ≡ Ok u) (b : Result ℕ Refusal) (t : b ≡ scan_of (of_blocks x) (nested_block x) (listed_by_block x) u) where
+    after_operations : nesting_ranges x ≡ from_blocks x
     unfolding nesting_ranges
-    operations_stop q = ends o.answer on_operations from_blocks of_operations q
+    after_operations = passed (on_operations x) (from_blocks x) (scan_passes 3 2048 16 x.o x.counts.operations _ _ 0 o s u p).0
 
-    module _ (p : o.answer ≡ Ok tt) (b : Pass)
-        (t : let y = tables_of_blocks x.b x.l x.counts in Scanned b 5 512 4 x.b x.counts.blocks (nested_block y) (listed_by_block y) o.used) where
-      from_blocks_lem : from_blocks ≡ nesting_ranges x
-      unfolding nesting_ranges
-      from_blocks_lem = goes_on o.answer on_operations from_blocks of_operations p
+    before_blocks_lem : u ≡ up_to_operations x
+    before_blocks_lem = omega (arith, (scan_passes 3 2048 16 x.o x.counts.operations (nested_operation x) (listed_by_operation x) 0 o s u p).1)
 
-      before_blocks_lem : o.used ≡ up_to_operations x
-      before_blocks_lem = omega (arith, s.used p)
+    pub blocks_stop : (r : Refusal) → b ≡ Err r → Err r ≡ nesting_ranges x
+    blocks_stop r q =
+        sym (after_operations
+        ∙ ap (λ (k : ℕ). and_then (on_blocks x k) (from_regions x)) (sym before_blocks_lem)
+        ∙ stopped (on_blocks x u) (from_regions x) r (scan_stops 5 512 4 x.b x.counts.blocks _ _ u b t r q))
 
-      of_blocks : b.answer ≡ on_blocks (up_to_operations x)
-      unfolding nested_block
-      of_blocks = t.answer ∙ ap on_blocks before_blocks_lem
+    module _ (v : ℕ) (q : b ≡ Ok v) (k : Result ℕ Refusal) (w : k ≡ scan_of (of_regions x) (good_region x) (listed_by_region x) v) where
+      blocks_passed : (on_blocks x u ≡ Ok tt) × (v ≡ u + sum (listed_by_block x) x.counts.blocks)
+      blocks_passed = scan_passes 5 512 4 x.b x.counts.blocks (nested_block x) (listed_by_block x) u b t v q
 
-      pub blocks_stop : {r : Refusal} → b.answer ≡ Err r → Err r ≡ nesting_ranges x
-      blocks_stop q = ends b.answer (on_blocks (up_to_operations x)) from_regions of_blocks q ∙ from_blocks_lem
+      after_blocks : nesting_ranges x ≡ from_regions x
+      after_blocks =
+          after_operations
+          ∙ ap (λ (k : ℕ). and_then (on_blocks x k) (from_regions x)) (sym before_blocks_lem)
+          ∙ passed (on_blocks x u) (from_regions x) blocks_passed.0
 
-      module _ (q : b.answer ≡ Ok tt) (k : Pass)
-          (u : let y = tables_of_regions x.r x.l x.counts in Scanned k 6 512 2 x.r x.counts.regions (good_region y) (listed_by_region y) b.used) where
-        from_regions_lem : from_regions ≡ nesting_ranges x
-        from_regions_lem = goes_on b.answer (on_blocks (up_to_operations x)) from_regions of_blocks q ∙ from_blocks_lem
+      before_regions_lem : v ≡ up_to_blocks x
+      before_regions_lem = blocks_passed.1 ∙ ap (λ (m : ℕ). m + sum (listed_by_block x) x.counts.blocks) before_blocks_lem
 
-        before_regions_lem : b.used ≡ up_to_blocks x
-        before_regions_lem = t.used q ∙ ap (λ (m : ℕ). m + sum (listed_by_block x) x.counts.blocks) before_blocks_lem
+      pub regions_stop : (r : Refusal) → k ≡ Err r → Err r ≡ nesting_ranges x
+      regions_stop r z =
+          sym (after_blocks
+          ∙ ap (λ (m : ℕ). and_then (on_regions x m) (on_functions x)) (sym before_regions_lem)
+          ∙ stopped (on_regions x v) (on_functions x) r (scan_stops 6 512 2 x.r x.counts.regions _ _ v k w r z))
 
-        of_regions : k.answer ≡ on_regions (up_to_blocks x)
-        unfolding good_region
-        of_regions = u.answer ∙ ap on_regions before_regions_lem
-
-        pub regions_stop : {r : Refusal} → k.answer ≡ Err r → Err r ≡ nesting_ranges x
-        regions_stop z = ends k.answer (on_regions (up_to_blocks x)) on_functions of_regions z ∙ from_regions_lem
-
-        pub functions_end : k.answer ≡ Ok tt → (r : Answer)
-            → r ≡ first_bad 7 64 1 x.f x.counts.functions (λ p. ltb (get_or (functions (tables_of_functions x.f x.counts)) p 0) x.counts.operations)
-            → r ≡ nesting_ranges x
-        functions_end z r e = e ∙ goes_on k.answer (on_regions (up_to_blocks x)) on_functions of_regions z ∙ from_regions_lem
+      pub functions_end : (m : ℕ) → k ≡ Ok m → (a : Answer)
+          → a ≡ first_of (of_functions x) (λ p. ltb (get_or (functions x) p 0) x.counts.operations)
+          → a ≡ nesting_ranges x
+      unfolding first_of first_bad
+      functions_end m z a e =
+          e
+          ∙ sym (after_blocks
+          ∙ ap (λ (m : ℕ). and_then (on_regions x m) (on_functions x)) (sym before_regions_lem)
+          ∙ passed (on_regions x v) (on_functions x) (scan_passes 6 512 2 x.r x.counts.regions (good_region x) (listed_by_region x) v k w m z).0)
 
 -- ---- a table that passes
 

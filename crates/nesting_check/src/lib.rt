@@ -45,6 +45,7 @@ fn check_ranges(x: &Tables<'_>) -> Answer
 }
 
 // Codes 1, 2 and 3 of the nesting.
+#[tactic(auto, using(crate::proofs::Turns::listed_same), unfolding(crate::specs::Checks::nesting_checks))]
 pub fn check_nesting(x: &Tables<'_>) -> Answer
     ensures { result ≡ nesting_checks x.now }
 {
