@@ -9,16 +9,16 @@ use Rattle.cells.specs.declared.Span.{Span}
 use lib.ListN.{length, get_or, drop, take}
 use Rattle.cells.proofs.Parts.{left_step, left_end}
 use Rattle.tables.specs.Sizes.{max_depth}
-use Rattle.tables.specs.Tables.{Tables, regions, blocks, operations, arguments_span, operands_span, result_types_span}
+use Rattle.tables.specs.Tables.{Tables, functions, regions, blocks, operations, arguments_span, operands_span, result_types_span}
 use Rattle.tables.specs.declared.Place.{Place}
 use Rattle.tables.specs.declared.Place.TheVariants.{Argument, Result}
 use Rattle.nesting.specs.Shape.{visit}
 use Rattle.nesting.specs.Live.{placed}
 use Rattle.nesting.specs.ReadBack.{Use, uses_at}
-use Rattle.nesting.specs.Ask.{all, fold_operation, fold_operations, fold_block, fold_region, fold_entry}
+use Rattle.nesting.specs.Ask.{all, fold_operation, fold_operations, fold_block, fold_region, fold_entry, fold_entries}
 use Rattle.read_back.specs.Alone.{spanned}
 use Rattle.read_back.specs.Live.{grow_all}
-use Rattle.read_back.specs.Stage.{Stage, staged, read_all, use_of, lists, region_uses, block_uses, inside_uses, entry_uses, Went}
+use Rattle.read_back.specs.Stage.{Stage, staged, read_all, use_of, lists, region_uses, block_uses, inside_uses, entry_uses, entries_uses, Went}
 use Rattle.read_back.specs.declared.Reading.{Reading}
 use Rattle.read_back.proofs.Stack.{Above, above_none, above_all, take_back}
 use Rattle.read_back.proofs.Stage.{read_append}
@@ -34,16 +34,20 @@ going_start numbers f xs w held = record { lives = refl; left = refl }
 
 module _ {numbers : List ℕ} {f : List Place → ℕ → List Use} {xs : List ℕ} {live : List Place} {s : Stage} {w : Reading} {held : List ℕ} {i : ℕ}
     (inv : Going numbers f xs live s w held i) where
-  pub going_step : {w' : Reading} {held' : List ℕ} → i < length xs
-      → Went w' held' w.live (read_all numbers (staged w held) (f w.live (get_or xs i 0))) → Going numbers f xs live s w' held' (i + 1)
-  going_step h v = record {
-    lives = v.lives ∙ inv.lives;
+  pub going_next : {w' : Reading} {held' : List ℕ} (k : ℕ) → k ≡ get_or xs i 0 → i < length xs
+      → Went w' held' live (read_all numbers (staged w held) (f live k)) → Going numbers f xs live s w' held' (i + 1)
+  going_next k e h v = record {
+    lives = v.lives;
     left =
         ap (λ (z : Stage). read_all numbers z (all lists (f live) (drop (i + 1) xs)))
-        (v.reached ∙ ap (λ (l : List Place). read_all numbers (staged w held) (f l (get_or xs i 0))) inv.lives)
+        (v.reached ∙ ap (λ (j : ℕ). read_all numbers (staged w held) (f live j)) e)
         ∙ sym (read_append numbers (staged w held) (f live (get_or xs i 0)) (all lists (f live) (drop (i + 1) xs)))
         ∙ (rw (left_step xs i 0 h) at inv.left);
   }
+
+  pub going_step : {w' : Reading} {held' : List ℕ} → i < length xs
+      → Went w' held' w.live (read_all numbers (staged w held) (f w.live (get_or xs i 0))) → Going numbers f xs live s w' held' (i + 1)
+  going_step h v = going_next (get_or xs i 0) refl h (rw inv.lives at v)
 
   pub going_end : length xs ≤ i → Went w held live (read_all numbers s (all lists (f live) xs))
   going_end h = record { lives = inv.lives; reached = rw (left_end xs i 0 h) at inv.left }
@@ -166,3 +170,10 @@ module _ (numbers : List ℕ) (x : Tables) (id : ℕ) (s : Stage) (w : Reading) 
     entry_went l block b v =
         let q : blocks x region ≡ block ∷ drop 1 ys = sym f ∙ left_step ys 0 0 l ∙ ap (λ (k : ℕ). k ∷ drop 1 ys) (sym b) in
         rw (first_region, q) v
+
+-- ---- the entry walks of all functions
+
+pub entries_went : (numbers : List ℕ) (x : Tables) (s : Stage) {w : Reading} {held xs : List ℕ} → xs ≡ functions x
+    → Went w held [] (read_all numbers s (all lists (entry_uses x) xs)) → staged w held ≡ read_all numbers s (entries_uses x)
+unfolding entries_uses entry_uses fold_entries placed spanned
+entries_went numbers x s e v = rw e at v.reached

@@ -6,4 +6,4 @@ use Rattle.read_back.proofs.read_all.Given as goal
 
 abbrev pub invariant-loop-id : goal.invariant-loop-id
 invariant-loop-id z =
-    Going z.reader.numbers.now (λ live id. entry_uses z.reader.x.now id) z.id-items [] (start z.initial.places) z.reading z.places z.id-index
+    Going z.fn.numbers (λ live. entry_uses z.fn.x) z.id-items [] (start z.initial.places) z.reading z.places z.id-index
