@@ -1,8 +1,7 @@
 -- What accepted tables give the walk: the stack takes up all that becomes live as it stands. Assumes nothing.
 use Prim.Native.Nat.{ℕ, ◌≤◌}
 use native.Mathlib.Omega.{arith}
-use mathlib.Core.Path.{◌≡◌, refl}
-use mathlib.Core.List.{[]}
+use mathlib.Core.Path.{◌≡◌}
 use mathlib.Core.Logic.{⊎_elim}
 use lib.ListN.{length, replicate, length-replicate}
 use Rattle.cells.specs.Lists.{below, count}
@@ -17,22 +16,13 @@ use Rattle.table_checks.proofs.Reach.{operations_once, blocks_once, regions_once
 use Rattle.nesting.specs.Passed.{Apart, Single, all_arguments}
 use Rattle.nesting.specs.Dominance.{dominance}
 use Rattle.nesting.proofs.Theorems.{stack_dominance}
-use Rattle.scope.specs.Stack.{see_all, Holds}
-use Rattle.scope.specs.declared.Live.{Live}
-use Rattle.scope.proofs.Laws.{grows, holds_none}
+use Rattle.scope.specs.Stack.{see_all}
+use Rattle.scope.proofs.Laws.{grows}
 use Rattle.dominance.specs.Alone.{dominance_alone}
 use Rattle.dominance.specs.Walk.{whole_judged}
 
 module _ (x : Tables) (e : table_checks x ≡ Ok tt) where
-  -- a new stack with a place for each value
-  pub empty_stack : {N : ℕ} (stack : Live N) → stack ≡ record { dense = replicate N 0; sparse = replicate N 0; values = x.counts.values } → x.counts.values ≤ N
-      → Holds x.counts.values stack 0 []
-  empty_stack {N} stack q h =
-      rw q
-      (holds_none x.counts.values (record { dense = replicate N 0; sparse = replicate N 0; values = x.counts.values }) refl
-      (omega (arith, length-replicate {A = ℕ} N 0, h)) (omega (arith, length-replicate {A = ℕ} N 0, h)))
-
-  -- the largest stack has
+  -- the largest stack has a place for each value
   pub values_fit : x.counts.values ≤ max_values
   values_fit = (passes_1 x e).values_fit
 

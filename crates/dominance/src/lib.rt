@@ -185,9 +185,11 @@ pub fn after_checks(x: &Tables<'_>, claims: &Claims<'_>) -> Answer
 {
     let values = x.counts().values;
     if values <= FEW_VALUES {
-        visit_functions(x, claims, &mut Live::<512>::new(values))
+        let mut stack = Live::<512>::new(values);
+        visit_functions(x, claims, &mut stack)
     } else {
-        visit_functions(x, claims, &mut Live::<4096>::new(values))
+        let mut stack = Live::<4096>::new(values);
+        visit_functions(x, claims, &mut stack)
     }
 }
 

@@ -13,7 +13,7 @@ use Rattle.nesting.specs.Shape.{operation_visits, block_visits, region_visits, e
 use Rattle.nesting.specs.Live.{nesting_of, placed, value_at}
 use Rattle.nesting.specs.Numbering.{numbers_at, numbering}
 use Rattle.numbering.specs.Alone.{Outcome, outcome, size, sizes, handed}
-use Rattle.numbering.specs.declared.Numbered.TheVariants.{Written, Refused}
+use Rattle.std.specs.Prelude.{Ok, Err}
 
 -- case M with so many functions, the first operand of operation 1 and the operand of operation 4
 unfoldable m : ℕ → ℕ → ℕ → Tables
@@ -32,12 +32,12 @@ unfoldable handed_of : Tables → List ℕ → List ℕ → Outcome
 handed_of x numbers lengths = handed (numbering (replicate 320 0) x) (sizes x) numbers lengths
 
 cards :
-    (handed_of (m 1 0 2) (9 ∷ 9 ∷ 9 ∷ 9 ∷ 9 ∷ 9 ∷ 9 ∷ []) (8 ∷ 8 ∷ []) ≡ outcome (Written 6) (0 ∷ 1 ∷ 2 ∷ 2 ∷ 0 ∷ 2 ∷ 9 ∷ []) (6 ∷ 8 ∷ []))
-    × (handed_of (m 1 0 2) (9 ∷ 9 ∷ []) [] ≡ outcome (Refused (TooShort 6)) (9 ∷ 9 ∷ []) [])
-    × (handed_of (m 1 0 2) (9 ∷ 9 ∷ 9 ∷ 9 ∷ 9 ∷ 9 ∷ []) [] ≡ outcome (Refused (TooShort 1)) (9 ∷ 9 ∷ 9 ∷ 9 ∷ 9 ∷ 9 ∷ []) [])
-    × (handed_of (m 1 0 3) (9 ∷ []) (8 ∷ []) ≡ outcome (Refused (NoNumber 4 0)) (9 ∷ []) (8 ∷ []))
-    × (handed_of (m 1 2 2) (9 ∷ []) (8 ∷ []) ≡ outcome (Refused (NoNumber 1 0)) (9 ∷ []) (8 ∷ []))
-    × (handed_of (m 0 0 2) (9 ∷ []) (8 ∷ []) ≡ outcome (Written 0) (9 ∷ []) (8 ∷ []))
+    (handed_of (m 1 0 2) (9 ∷ 9 ∷ 9 ∷ 9 ∷ 9 ∷ 9 ∷ 9 ∷ []) (8 ∷ 8 ∷ []) ≡ outcome (Ok 6) (0 ∷ 1 ∷ 2 ∷ 2 ∷ 0 ∷ 2 ∷ 9 ∷ []) (6 ∷ 8 ∷ []))
+    × (handed_of (m 1 0 2) (9 ∷ 9 ∷ []) [] ≡ outcome (Err (TooShort 6)) (9 ∷ 9 ∷ []) [])
+    × (handed_of (m 1 0 2) (9 ∷ 9 ∷ 9 ∷ 9 ∷ 9 ∷ 9 ∷ []) [] ≡ outcome (Err (TooShort 1)) (9 ∷ 9 ∷ 9 ∷ 9 ∷ 9 ∷ 9 ∷ []) [])
+    × (handed_of (m 1 0 3) (9 ∷ []) (8 ∷ []) ≡ outcome (Err (NoNumber 4 0)) (9 ∷ []) (8 ∷ []))
+    × (handed_of (m 1 2 2) (9 ∷ []) (8 ∷ []) ≡ outcome (Err (NoNumber 1 0)) (9 ∷ []) (8 ∷ []))
+    × (handed_of (m 0 0 2) (9 ∷ []) (8 ∷ []) ≡ outcome (Ok 0) (9 ∷ []) (8 ∷ []))
 unfolding m handed_of size numbering numbers_at entries_visits entry_visits region_visits block_visits operation_visits placed nesting_of value_at
     value_of claim_in claim_flag_in functions_in blocks_in blocks_span_in operations_in operations_span_in arguments_in arguments_span_in regions_in
     regions_span_in operands_in operands_span_in result_types_in result_types_span_in opcode_in fixed_count_in fixed_flag_in

@@ -18,7 +18,7 @@ use Rattle.nesting.specs.Ask.{listings, all, fold_entry, fold_entries}
 use Rattle.numbering.specs.Alone.{outcome, over, filled_by}
 use Rattle.numbering_walk.specs.Walk.{function_numbered}
 use Rattle.numbering.specs.Fill.{entries_numbered}
-use Rattle.numbering.specs.declared.Numbered.TheVariants.{Written}
+use Rattle.std.specs.Prelude.{Ok}
 use Rattle.numbering_walk.proofs.Walks.{join_nil, join_more, join_none}
 use Rattle.numbering.proofs.Handed.{copied_is}
 
@@ -60,7 +60,7 @@ module _ {f : ℕ → Listing ℕ} {size : ℕ → ℕ} {fs numbers₀ lengths�
     held_is : numbers ≡ over inv.list numbers₀
     held_is = ap (λ (p : Filled). p.held) (inv.wrote ∙ whole numbers₀ inv.list (omega (arith, inv.spent)))
 
-    pub filling_end : length fs ≤ i → outcome (Written done) numbers lengths ≡ filled_by (all listings f fs) (map size fs) numbers₀ lengths₀
+    pub filling_end : length fs ≤ i → outcome (Ok done) numbers lengths ≡ filled_by (all listings f fs) (map size fs) numbers₀ lengths₀
     filling_end h =
         let q : all listings f fs ≡ fine inv.list = sym (sym (join_none inv.list) ∙ (rw (left_end fs i 0 h) at inv.said)) in
         let l : lengths ≡ over (map size fs) lengths₀ =

@@ -3,7 +3,8 @@ use Prim.Native.Nat.{ℕ, ◌≤◌}
 use native.Mathlib.Omega.{arith}
 use mathlib.Core.Path.{◌≡◌, sym, ap, ◌∙◌}
 use mathlib.Core.Logic.{⊎_elim}
-use mathlib.Core.List.{List}
+use mathlib.Core.Bool.{true, false}
+use mathlib.Core.List.{List, []}
 use lib.ListN.{length, take, drop, replicate, length-replicate, length-map}
 use lib.Seq.{take-append_seam}
 use Rattle.cells.specs.Lists.{below, count}
@@ -11,6 +12,7 @@ use Rattle.cells.proofs.Rows.{lt_or_ge}
 use Rattle.tables.specs.Sizes.{max_values, max_entries, max_functions}
 use Rattle.tables.specs.Tables.{Tables, functions, arguments}
 use Rattle.std.specs.Prelude.{Ok, Err}
+use Rattle.std.specs.Result.{is_err}
 use Rattle.tables.specs.declared.Refusal.{Refusal}
 use Rattle.table_checks.specs.Checks.{table_checks, sheet_checks}
 use Rattle.table_checks.proofs.Laws.{passes_1, passes_4}
@@ -18,32 +20,26 @@ use Rattle.table_checks.proofs.Reach.{operations_once, blocks_once, regions_once
 use Rattle.nesting.specs.Passed.{Apart, Single, all_arguments}
 use Rattle.nesting.specs.Numbering.{Listing, fine, refused, numbering}
 use Rattle.nesting.proofs.Theorems.{stack_numbering}
-use Rattle.scope.specs.Stack.{see_all}
+use Rattle.scope.specs.Stack.{see_all, Holds}
+use Rattle.scope.specs.declared.Live.{Live}
 use Rattle.scope.proofs.Laws.{grows}
-use Rattle.numbering.specs.Alone.{size, sizes, Outcome, outcome, over, handed_over, handed, filled_by, numbering_alone}
+use Rattle.numbering.specs.Alone.{Numbered, size, sizes, Outcome, outcome, over, handed_over, handed, filled_by, numbering_alone}
 use Rattle.numbering.specs.Fill.{Room, Told, entries_numbered}
-use Rattle.numbering.specs.declared.Numbered.{Numbered}
-use Rattle.numbering.specs.declared.Numbered.TheVariants.{Written, Refused}
 use Rattle.numbering.proofs.Sizes.{all_fit_lem}
 
 module _ (x : Tables) (e : table_checks x ≡ Ok tt) where
-  -- a stack with an entry for each value, and lists of the full sizes
-  room_of : (k : ℕ) → x.counts.values ≤ k → (numbers lengths : List ℕ) → max_entries ≤ length numbers → max_functions ≤ length lengths
-      → Room x (replicate k 0) (replicate k 0) numbers lengths
-  room_of k h numbers lengths hn hl = record {
-    dense = omega (arith, length-replicate {A = ℕ} k 0, h);
-    sparse = omega (arith, length-replicate {A = ℕ} k 0, h);
+  -- lists of the full sizes have room for all
+  pub room : {N : ℕ} {stack : Live N} → Holds x.counts.values stack 0 [] → {numbers lengths : List ℕ} → max_entries ≤ length numbers → max_functions ≤ length lengths
+      → Room x stack numbers lengths
+  room h hn hl = record {
+    empty = h;
     all = omega (arith, all_fit_lem x e, hn);
     each = omega (arith, (passes_1 x e).functions_whole, (passes_1 x e).functions_fit, hl);
   }
 
-  pub room : (numbers lengths : List ℕ) → max_entries ≤ length numbers → max_functions ≤ length lengths
-      → Room x (replicate max_values 0) (replicate max_values 0) numbers lengths
-  room = room_of max_values (passes_1 x e).values_fit
-
-  pub few_room : x.counts.values ≤ 512 → (numbers lengths : List ℕ) → max_entries ≤ length numbers → max_functions ≤ length lengths
-      → Room x (replicate 512 0) (replicate 512 0) numbers lengths
-  few_room = room_of 512
+  -- the largest stack has a place for each value
+  pub values_fit : x.counts.values ≤ max_values
+  values_fit = (passes_1 x e).values_fit
 
   -- codes 1 and 2
   apart : Apart x
@@ -70,24 +66,23 @@ module _ (x : Tables) (e : table_checks x ≡ Ok tt) where
 
 -- ---- after the checks: a refusal leaves both lists all zero
 
-module _ (a : Listing ℕ) (ns numbers lengths numbers₀ lengths₀ : List ℕ) {w : Numbered} (t : Told w a ns numbers lengths numbers₀ lengths₀) where
-  pub told_written : {m : ℕ} {b : Listing ℕ} → w ≡ Written m → a ≡ b → outcome (Written m) numbers lengths ≡ filled_by b ns numbers₀ lengths₀
-  told_written {m} ew eb =
-      let z : Told (Written m) a ns numbers lengths numbers₀ lengths₀ = rw ew at t in
-      rw eb at z
+module _ (ns numbers lengths numbers₀ lengths₀ : List ℕ) where
+  pub told_kept : {a b : Listing ℕ} (w : Numbered) → Told w a ns numbers lengths numbers₀ lengths₀ → is_err w ≡ false → a ≡ b
+      → outcome w numbers lengths ≡ filled_by b ns numbers₀ lengths₀
+  told_kept (Ok m) t e eb = rw eb at t
+  told_kept (Err why) t e eb = absurd (let z : ◌≡◌ {A = ℕ} 0 1 = cc in omega arith)
 
-  pub told_refused : {why : Refusal} {b : Listing ℕ} {numbers' lengths' : List ℕ} → w ≡ Refused why → a ≡ b
-      → numbers' ≡ replicate (length numbers₀) 0 → lengths' ≡ replicate (length lengths₀) 0
-      → outcome (Refused why) numbers' lengths' ≡ filled_by b ns numbers₀ lengths₀
-  told_refused {why} {b} ew eb en el =
-      let z : Told (Refused why) a ns numbers lengths numbers₀ lengths₀ = rw ew at t in
-      let q : b ≡ refused why = sym (z ∙ eb) in
+  pub told_cleared : {a b : Listing ℕ} (w : Numbered) → Told w a ns numbers lengths numbers₀ lengths₀ → is_err w ≡ true → a ≡ b → {numbers' lengths' : List ℕ}
+      → numbers' ≡ replicate (length numbers₀) 0 → lengths' ≡ replicate (length lengths₀) 0 → outcome w numbers' lengths' ≡ filled_by b ns numbers₀ lengths₀
+  told_cleared (Ok m) t e eb en el = absurd (let z : ◌≡◌ {A = ℕ} 0 1 = cc in omega arith)
+  told_cleared {b = b} (Err why) t e eb en el =
+      let q : b ≡ refused why = sym (t ∙ eb) in
       rw (q, en, el)
 
 -- ---- called alone
 
 pub alone_stops : (sheet : List ℕ) (x : Tables) (numbers lengths : List ℕ) {why : Refusal} → sheet_checks sheet x ≡ Err why
-    → outcome (Refused why) numbers lengths ≡ numbering_alone sheet x numbers lengths
+    → outcome (Err why) numbers lengths ≡ numbering_alone sheet x numbers lengths
 unfolding numbering_alone
 alone_stops sheet x numbers lengths e = rw e
 
@@ -97,31 +92,31 @@ unfolding numbering_alone
 alone_goes sheet x numbers lengths e = rw e
 
 module _ (a : Listing ℕ) (ns all each numbers₀ lengths₀ : List ℕ) {w : Numbered} (numbers lengths : List ℕ) where
-  pub refusal_handed : {why : Refusal} → outcome w all each ≡ filled_by a ns numbers₀ lengths₀ → w ≡ Refused why → outcome (Refused why) numbers lengths ≡ handed a ns numbers lengths
+  pub refusal_handed : {why : Refusal} → outcome w all each ≡ filled_by a ns numbers₀ lengths₀ → w ≡ Err why → outcome (Err why) numbers lengths ≡ handed a ns numbers lengths
   refusal_handed = go a
     where
-      go : (b : Listing ℕ) {why : Refusal} → outcome w all each ≡ filled_by b ns numbers₀ lengths₀ → w ≡ Refused why → outcome (Refused why) numbers lengths ≡ handed b ns numbers lengths
+      go : (b : Listing ℕ) {why : Refusal} → outcome w all each ≡ filled_by b ns numbers₀ lengths₀ → w ≡ Err why → outcome (Err why) numbers lengths ≡ handed b ns numbers lengths
       go (fine zs) {why} e ew =
-          let q : Refused why ≡ Written (length zs) = sym ew ∙ ap (λ (o : Outcome). o.answer) e in
+          let q : ◌≡◌ {A = Numbered} (Err why) (Ok (length zs)) = sym ew ∙ ap (λ (o : Outcome). o.answer) e in
           absurd (let z : ◌≡◌ {A = ℕ} 0 1 = cc in omega arith)
       go (refused r) {why} e ew =
-          let q : Refused why ≡ Refused r = sym ew ∙ ap (λ (o : Outcome). o.answer) e in
+          let q : ◌≡◌ {A = Numbered} (Err why) (Err r) = sym ew ∙ ap (λ (o : Outcome). o.answer) e in
           let s : why ≡ r = cc in
           rw s
 
-  pub list_handed : {o : Outcome} {m k : ℕ} → outcome w all each ≡ filled_by a ns numbers₀ lengths₀ → w ≡ Written m → length ns ≡ k
+  pub list_handed : {o : Outcome} {m k : ℕ} → outcome w all each ≡ filled_by a ns numbers₀ lengths₀ → w ≡ Ok m → length ns ≡ k
       → ((zs ms : List ℕ) → zs ≡ take m all → length zs ≡ m → ms ≡ take k each → length ms ≡ k → o ≡ handed_over zs ms numbers lengths)
       → o ≡ handed a ns numbers lengths
   list_handed = go a
     where
-      go : (b : Listing ℕ) {o : Outcome} {m k : ℕ} → outcome w all each ≡ filled_by b ns numbers₀ lengths₀ → w ≡ Written m → length ns ≡ k
+      go : (b : Listing ℕ) {o : Outcome} {m k : ℕ} → outcome w all each ≡ filled_by b ns numbers₀ lengths₀ → w ≡ Ok m → length ns ≡ k
           → ((zs ms : List ℕ) → zs ≡ take m all → length zs ≡ m → ms ≡ take k each → length ms ≡ k → o ≡ handed_over zs ms numbers lengths)
           → o ≡ handed b ns numbers lengths
       go (refused r) {m = m} e ew ek h =
-          let q : Written m ≡ Refused r = sym ew ∙ ap (λ (o : Outcome). o.answer) e in
+          let q : ◌≡◌ {A = Numbered} (Ok m) (Err r) = sym ew ∙ ap (λ (o : Outcome). o.answer) e in
           absurd (let z : ◌≡◌ {A = ℕ} 0 1 = cc in omega arith)
       go (fine zs) {m = m} {k = k} e ew ek h =
-          let q : Written m ≡ Written (length zs) = sym ew ∙ ap (λ (o : Outcome). o.answer) e in
+          let q : ◌≡◌ {A = Numbered} (Ok m) (Ok (length zs)) = sym ew ∙ ap (λ (o : Outcome). o.answer) e in
           let em : length zs ≡ m = cc in
           let ea : all ≡ over zs numbers₀ = ap (λ (o : Outcome). o.numbers) e in
           let ee : each ≡ over ns lengths₀ = ap (λ (o : Outcome). o.lengths) e in

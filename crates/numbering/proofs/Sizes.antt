@@ -13,7 +13,8 @@ use Rattle.tables.specs.Place.{position_from}
 use Rattle.tables.specs.Sheet.{fixed_count_in}
 use Rattle.tables.specs.Sizes.{max_depth, max_entries}
 use Rattle.tables.specs.Tables.{Tables, functions, regions, blocks, operations, opcode, operands, result_types}
-use Rattle.std.specs.Prelude.{Ok, Option, Some, None}
+use Rattle.std.specs.Prelude as std
+use Rattle.std.specs.Prelude.{Ok, Some, None}
 use Rattle.tables.specs.declared.Place.{Place}
 use Rattle.tables.specs.declared.Place.TheVariants.{Result}
 use Rattle.tables.specs.declared.Refusal.{Refusal}

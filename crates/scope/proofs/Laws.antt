@@ -7,7 +7,7 @@ use mathlib.Core.Path.{◌≡◌, refl, sym, ap, ◌∙◌, subst}
 use mathlib.Core.Bool.{Bool, true, false, cond, ◌||◌}
 use mathlib.Core.Option.{some}
 use mathlib.Core.List.{List, [], ◌∷◌, ◌++◌, append_assoc, append-nil}
-use lib.ListN.{length, take, get_or, length-append}
+use lib.ListN.{length, take, get_or, replicate, length-append, length-replicate}
 use lib.Seq.{take_at, take-take, length-take-le}
 use lib.Dec.{eqb, ltb}
 use borrow.Author.Tests.{eq-eqb, lt-ltb}
@@ -139,6 +139,12 @@ rolled {d = d} {n = n} {n₀ = n₀} {live = live} {live₀ = live₀} h p h₀ 
 -- a new stack holds nothing, and has room where there are no more values than places
 pub holds_none : {N : ℕ} (nv : ℕ) (stack : Live N) → stack.values ≡ nv → nv ≤ length stack.dense → nv ≤ length stack.sparse → Holds nv stack 0 []
 holds_none nv stack e hd hs = record { count = e; shown = shows_none nv stack.dense stack.sparse hd hs }
+
+pub holds_new : {N nv values : ℕ} {stack : Live N} → stack ≡ record { dense = replicate N 0; sparse = replicate N 0; values = values } → values ≡ nv → values ≤ N
+    → Holds nv stack 0 []
+holds_new {N} {nv} {values} e q h =
+    let room : nv ≤ length {A = ℕ} (replicate N 0) = omega (arith, length-replicate {A = ℕ} N 0, q, h) in
+    rw e (holds_none nv (record { dense = replicate N 0; sparse = replicate N 0; values = values }) q room room)
 
 -- what is live may be forgotten
 pub holds_clear : {nv N : ℕ} {stack : Live N} {n : ℕ} {live : List ℕ} → Holds nv stack n live → Holds nv stack 0 []

@@ -1,10 +1,24 @@
--- `visit_all`: a stack from zeros, as large as is wanted. Assumes nothing.
-use Rattle.tables.specs.Tables.{lent}
+-- `visit_all`: the functions over a new stack, which has a place for each value. Assumes nothing.
+use Prim.Native.Nat.{◌≤◌}
+use native.Mathlib.Omega.{arith}
+use mathlib.Core.Path.{ap}
+use Rattle.tables.specs.Sizes.{max_values}
+use Rattle.tables.specs.declared.Counts.{Counts}
 use Rattle.table_checks.proofs.Handed.{claims_tell}
-use Rattle.numbering.proofs.Passed.{room}
+use Rattle.scope.proofs.Laws.{holds_new}
+use Rattle.numbering.proofs.Passed.{values_fit, room}
 use Rattle.numbering.proofs.visit_all.Goals as goal
 
-pub returns : goal.returns
-returns c = λ t v e passed filled hn hl.
-    let x = lent t v c.args.o.now e c.args.b.now c.args.r.now c.args.f.now c.args.l.now c.args.n in
-    c.visit_functions.ensures t v e (claims_tell x passed _ _ filled) (room x passed c.args.numbers.now c.args.lengths.now hn hl)
+pub returns-then-values-le-FEW_VALUES : goal.returns-then-values-le-FEW_VALUES
+returns-then-values-le-FEW_VALUES c = λ passed filled hn hl.
+    let x = c.args.x.now in
+    let same = ap (λ (n : Counts). n.values) c.counts-values.ensures in
+    c.visit_functions.ensures (claims_tell x passed _ _ filled) (room x passed (holds_new c.new-stack.ensures same c.if-values-le-FEW_VALUES.true) hn hl)
+
+pub returns-else-values-le-FEW_VALUES : goal.returns-else-values-le-FEW_VALUES
+returns-else-values-le-FEW_VALUES c = λ passed filled hn hl.
+    let x = c.args.x.now in
+    let same = ap (λ (n : Counts). n.values) c.counts-values.ensures in
+    let fits : c.counts-values.result.values ≤ max_values = omega (arith, same, values_fit x passed) in
+    c.visit_functions-else-values-le-FEW_VALUES.ensures (claims_tell x passed _ _ filled)
+    (room x passed (holds_new c.new-stack-else-values-le-FEW_VALUES.ensures same fits) hn hl)
