@@ -1,11 +1,10 @@
 -- What an exported function takes and leaves: counts in a slice of seven, and the answer's three numbers in a slice, 0 0 0 for accepted.
+use Rattle.numbering.specs.Alone.{Numbered}
 use Rattle.std.specs.Prelude.{ℕ, List, get_or, set, Ok, Err}
 use Rattle.tables.specs.Answer.{numbers_of, Answer}
 use Rattle.tables.specs.declared.Counts.{Counts}
 use Rattle.tables.specs.declared.Target.{Target}
 use Rattle.tables.specs.declared.Numbers.{Numbers}
-use Rattle.numbering.specs.declared.Numbered.{Numbered}
-use Rattle.numbering.specs.declared.Numbered.TheVariants.{Written, Refused as No}
 
 -- types, values, operations, attributes, blocks, regions, functions
 abbrev pub counts_of : List ℕ → Counts
@@ -31,8 +30,8 @@ told (Err r) = numbers_of r
 
 -- numbers that are written are accepted
 unfoldable pub told_of_numbers : Numbered → Numbers
-told_of_numbers (Written count) = none
-told_of_numbers (No r) = numbers_of r
+told_of_numbers (Ok count) = none
+told_of_numbers (Err r) = numbers_of r
 
 -- code, id and detail, where there is room for them
 unfoldable pub noted : Numbers → List ℕ → List ℕ

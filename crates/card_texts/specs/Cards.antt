@@ -1,5 +1,5 @@
 -- The paper's "Bench cards" 1 to 9 as texts: of each the sheet, the module, and what the paper says of them.
-use Rattle.std.specs.Prelude.{ℕ, List, [], ◌∷◌, ◌++◌, length, replicate, set, take, drop}
+use Rattle.std.specs.Prelude.{ℕ, List, [], ◌∷◌, ◌++◌, length, replicate, set, take, drop, Ok, Err}
 use Prim.Native.String.{String}
 use Rattle.cells.specs.Lists.{flat}
 use Rattle.names.specs.Names.{bytes}
@@ -7,9 +7,7 @@ use Rattle.house.specs.House.{no_counts}
 use Rattle.tables.specs.Answer.{numbers_of, three}
 use Rattle.tables.specs.Tables.{Tables, lent}
 use Rattle.tables.specs.declared.Numbers.{Numbers}
-use Rattle.numbering.specs.Alone.{Outcome, over}
-use Rattle.numbering.specs.declared.Numbered.{Numbered}
-use Rattle.numbering.specs.declared.Numbered.TheVariants.{Written, Refused}
+use Rattle.numbering.specs.Alone.{Numbered, Outcome, over}
 use Rattle.text_check.specs.Texts.{texts_check}
 
 -- ---- what is seen: `ok` with how many numbers, or code, id and detail; and what the lent lists hold at exit
@@ -27,8 +25,8 @@ abbrev pub seen : Answered → List ℕ → List ℕ → Seen
 seen answer numbers lengths = record { answer = answer; numbers = numbers; lengths = lengths }
 
 abbrev pub answered : Numbered → Answered
-answered (Written count) = accepted count
-answered (Refused why) = refused (numbers_of why)
+answered (Ok count) = accepted count
+answered (Err why) = refused (numbers_of why)
 
 abbrev pub seen_of : Outcome → Seen
 seen_of w = seen (answered w.answer) w.numbers w.lengths

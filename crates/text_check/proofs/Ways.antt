@@ -14,7 +14,6 @@ use Rattle.sheet.specs.Sheet.{read_sheet}
 use Rattle.house.specs.State.{State}
 use Rattle.module_text.specs.Whole.{house}
 use Rattle.numbering.specs.Alone.{Outcome, outcome}
-use Rattle.numbering.specs.declared.Numbered.TheVariants.{Refused}
 use Rattle.full_check.specs.Full.{full_check}
 use Rattle.text_check.specs.Texts.{in_sheet, texts, slices, target, checked, texts_check}
 use Rattle.text_check.proofs.Low.{sheet_low}
@@ -36,7 +35,7 @@ module _ (why : Refusal) {n : Numbers} (e : n ≡ numbers_of why) where
 -- ---- what was read
 
 module _ (s : State) (sheet numbers lengths : List ℕ) where
-  pub read_stops : {why : Refusal} → s.answer ≡ Err why → outcome (Refused why) numbers lengths ≡ checked s sheet numbers lengths
+  pub read_stops : {why : Refusal} → s.answer ≡ Err why → outcome (Err why) numbers lengths ≡ checked s sheet numbers lengths
   unfolding checked
   read_stops e = rw e
 
@@ -52,7 +51,7 @@ module _ (sheet_text text : List ℕ) (x : Tables) (sheet numbers lengths : List
   refused_low {why} q = sheet_low sheet_text sheet why (sym (ap (λ (w : Left Answer). w.answer) e) ∙ q)
 
   pub sheet_stops : {why told : Refusal} → a ≡ Err why → told ≡ in_sheet why
-      → texts (outcome (Refused told) numbers lengths) x after ≡ texts_check sheet_text text x sheet numbers lengths
+      → texts (outcome (Err told) numbers lengths) x after ≡ texts_check sheet_text text x sheet numbers lengths
   unfolding texts_check
   sheet_stops q t = rw (sym e, q, t)
 

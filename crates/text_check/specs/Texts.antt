@@ -11,7 +11,6 @@ use Rattle.house.specs.State.{State}
 use Rattle.house.specs.House.{no_counts}
 use Rattle.module_text.specs.Whole.{house}
 use Rattle.numbering.specs.Alone.{Outcome, outcome, after_checks}
-use Rattle.numbering.specs.declared.Numbered.TheVariants.{Refused}
 use Rattle.full_check.specs.Full.{full_check}
 
 -- "its 15 adds 100 to the field"; of a 15 the id is the line and the detail the field
@@ -43,7 +42,7 @@ unfoldable pub checked : State → List ℕ → List ℕ → List ℕ → Outcom
 checked s sheet numbers lengths = after_checks s.answer (full_check (target s) sheet s.tables numbers lengths) numbers lengths
 
 abbrev pub after_sheet : Answer → List ℕ → State → Tables → List ℕ → List ℕ → Texts
-after_sheet (Err r) sheet s x numbers lengths = texts (outcome (Refused (in_sheet r)) numbers lengths) x sheet
+after_sheet (Err r) sheet s x numbers lengths = texts (outcome (Err (in_sheet r)) numbers lengths) x sheet
 after_sheet (Ok _) sheet s x numbers lengths = texts (checked s sheet numbers lengths) (slices s.tables) sheet
 
 -- a refused sheet leaves the tables as they were; a module that was read stays in them, whatever the check says

@@ -29,7 +29,6 @@ use Rattle.nesting.specs.Numbering.{fine, numbers_at, numbering}
 use Rattle.nesting.specs.ReadBack.{uses, operand_places}
 use Rattle.nesting.proofs.Past.{regions_past, blocks_past, operations_past, arguments_past, results_past, operands_past}
 use Rattle.numbering.specs.Alone.{Outcome, outcome, size, numbering_alone}
-use Rattle.numbering.specs.declared.Numbered.TheVariants.{Written}
 use Rattle.nesting_check.specs.Checks.{nested_operation, nested_block, nesting_ranges}
 use Rattle.read_back.specs.Alone.{spanned, written, outcome as reads, after_checks as after_read, read_back_alone}
 use Rattle.theorems.proofs.Seen.{seen}
@@ -94,7 +93,7 @@ met =
 pub after : Outcome
 after = numbering_alone (replicate 320 0) m (replicate 7 9) (replicate 2 8)
 
-numbered : after ≡ outcome (Written 6) (0 ∷ 1 ∷ 2 ∷ 2 ∷ 0 ∷ 2 ∷ 9 ∷ []) (6 ∷ 8 ∷ [])
+numbered : after ≡ outcome (Ok 6) (0 ∷ 1 ∷ 2 ∷ 2 ∷ 0 ∷ 2 ∷ 9 ∷ []) (6 ∷ 8 ∷ [])
 unfolding m after numbering_alone sheet_checks table_ranges sheet_range good_sheet listed_twice lowest_twice too_deep operation_depth block_depth
     region_depth values_twice defined_twice first_bad good_type good_value good_operation good_attribute good_block good_region numbering numbers_at size
     entries_visits entry_visits region_visits block_visits operation_visits placed nesting_of value_at value_of opcode_in result_types_span_in result_types_in

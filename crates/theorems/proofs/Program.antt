@@ -22,7 +22,6 @@ use Rattle.nesting.specs.Live.{Nesting, nesting_of}
 use Rattle.nesting.specs.Numbering.{Listing, fine, refused, numbering}
 use Rattle.nesting.specs.ReadBack.{read_back, operand_places}
 use Rattle.numbering.specs.Alone.{outcome, sizes, over, handed, after_checks, numbering_alone}
-use Rattle.numbering.specs.declared.Numbered.TheVariants.{Written, Refused}
 use Rattle.full_check.specs.Full.{parts, refusals, full_check}
 use Rattle.nesting_check.specs.Checks.{nesting_ranges}
 use Rattle.read_back.specs.Alone.{spanned, written, after_checks as after_read, read_back_alone}
@@ -40,8 +39,8 @@ pub record Numbers (sheet : List ℕ) (x : Tables) (zs : List ℕ) : Type 0 wher
 
 -- where both lists had room
 room : (p q : Bool) (zs ns numbers lengths : List ℕ) (c : ℕ)
-    → let w = cond p (cond q (outcome (Written (length zs)) (over zs numbers) (over ns lengths)) (outcome (Refused (TooShort (length ns))) numbers lengths)) (outcome (Refused (TooShort (length zs))) numbers lengths) in
-    w.answer ≡ Written c → zs ≡ take c w.numbers
+    → let w = cond p (cond q (outcome (Ok (length zs)) (over zs numbers) (over ns lengths)) (outcome (Err (TooShort (length ns))) numbers lengths)) (outcome (Err (TooShort (length zs))) numbers lengths) in
+    w.answer ≡ Ok c → zs ≡ take c w.numbers
 room true true zs ns numbers lengths c e =
     let q : length zs ≡ c = cc in
     rw (← q) (sym (take-append_seam zs (drop (length zs) numbers)))
@@ -51,7 +50,7 @@ room false q zs ns numbers lengths c e = absurd (let z : ◌≡◌ {A = ℕ} 0 1
 -- where the checks before it passed and the numbering is a list
 wrote : (a : Answer) (l : Listing ℕ) (ns numbers lengths : List ℕ) (c : ℕ)
     → let w = after_checks a (handed l ns numbers lengths) numbers lengths in
-    w.answer ≡ Written c → (a ≡ Ok tt) × (l ≡ fine (take c w.numbers))
+    w.answer ≡ Ok c → (a ≡ Ok tt) × (l ≡ fine (take c w.numbers))
 wrote (Ok _) (fine zs) ns numbers lengths c e =
     (refl, ap fine (room (leb (length zs) (length numbers)) (leb (length ns) (length lengths)) zs ns numbers lengths c e))
 wrote (Ok _) (refused r) ns numbers lengths c e = absurd (let z : ◌≡◌ {A = ℕ} 0 1 = cc in omega arith)
@@ -59,7 +58,7 @@ wrote (Err r) l ns numbers lengths c e = absurd (let z : ◌≡◌ {A = ℕ} 0 1
 
 -- numbering called alone
 pub numbering_wrote : (sheet : List ℕ) (x : Tables) (numbers lengths : List ℕ) (c : ℕ)
-    → (numbering_alone sheet x numbers lengths).answer ≡ Written c
+    → (numbering_alone sheet x numbers lengths).answer ≡ Ok c
     → Numbers sheet x (take c (numbering_alone sheet x numbers lengths).numbers)
 unfolding numbering_alone
 numbering_wrote sheet x numbers lengths c e =
@@ -68,7 +67,7 @@ numbering_wrote sheet x numbers lengths c e =
 
 -- the check that runs all
 pub check_wrote : (g : Target) (sheet : List ℕ) (x : Tables) (numbers lengths : List ℕ) (c : ℕ)
-    → (full_check g sheet x numbers lengths).answer ≡ Written c
+    → (full_check g sheet x numbers lengths).answer ≡ Ok c
     → Numbers sheet x (take c (full_check g sheet x numbers lengths).numbers)
 unfolding full_check refusals
 check_wrote g sheet x numbers lengths c e =
@@ -80,7 +79,7 @@ check_wrote g sheet x numbers lengths c e =
 
 -- "Written numbers read back to the defining places."
 pub own_list_reads_back : (sheet : List ℕ) (x : Tables) (numbers lengths held : List ℕ) (c : ℕ)
-    → (numbering_alone sheet x numbers lengths).answer ≡ Written c
+    → (numbering_alone sheet x numbers lengths).answer ≡ Ok c
     → read_back_alone x (take c (numbering_alone sheet x numbers lengths).numbers) held ≡ written (fine (operand_places x)) held
 unfolding table_checks
 own_list_reads_back sheet x numbers lengths held c e =
@@ -100,7 +99,7 @@ same_numbers s s' x y zs zs' n a b e = same_list_same_places s s' x y a.checks b
 -- of the list as numbering writes it to lent memory; it asks 1 to 4 and all of numbering itself, so nothing else is to be assumed
 pub written_list_same_places : (s s' : List ℕ) (x y : Tables) (numbers lengths numbers' lengths' : List ℕ) (c c' : ℕ)
     → nesting_of x ≡ nesting_of y
-    → (numbering_alone s x numbers lengths).answer ≡ Written c → (numbering_alone s' y numbers' lengths').answer ≡ Written c'
+    → (numbering_alone s x numbers lengths).answer ≡ Ok c → (numbering_alone s' y numbers' lengths').answer ≡ Ok c'
     → take c (numbering_alone s x numbers lengths).numbers ≡ take c' (numbering_alone s' y numbers' lengths').numbers
     → operand_places x ≡ operand_places y
 written_list_same_places s s' x y numbers lengths numbers' lengths' c c' n e e' q =
@@ -110,7 +109,7 @@ written_list_same_places s s' x y numbers lengths numbers' lengths' c c' n e e' 
 -- and as the check that runs all writes it
 pub checked_list_same_places : (g g' : Target) (s s' : List ℕ) (x y : Tables) (numbers lengths numbers' lengths' : List ℕ) (c c' : ℕ)
     → nesting_of x ≡ nesting_of y
-    → (full_check g s x numbers lengths).answer ≡ Written c → (full_check g' s' y numbers' lengths').answer ≡ Written c'
+    → (full_check g s x numbers lengths).answer ≡ Ok c → (full_check g' s' y numbers' lengths').answer ≡ Ok c'
     → take c (full_check g s x numbers lengths).numbers ≡ take c' (full_check g' s' y numbers' lengths').numbers
     → operand_places x ≡ operand_places y
 checked_list_same_places g g' s s' x y numbers lengths numbers' lengths' c c' n e e' q =
@@ -135,7 +134,7 @@ reads sheet x y zs held n same =
 
 -- of the list as numbering wrote it to lent memory
 pub reading_finds_the_places : (sheet : List ℕ) (x y : Tables) (numbers lengths held : List ℕ) (c : ℕ)
-    → (numbering_alone sheet x numbers lengths).answer ≡ Written c → spanned y ≡ nesting_of x
+    → (numbering_alone sheet x numbers lengths).answer ≡ Ok c → spanned y ≡ nesting_of x
     → read_back_alone y (take c (numbering_alone sheet x numbers lengths).numbers) held
     ≡ after_read (nesting_ranges y) (written (fine (operand_places x)) held) held
 reading_finds_the_places sheet x y numbers lengths held c e =
@@ -143,7 +142,7 @@ reading_finds_the_places sheet x y numbers lengths held c e =
 
 -- and as the check that runs all wrote it
 pub reading_finds_the_checked : (g : Target) (sheet : List ℕ) (x y : Tables) (numbers lengths held : List ℕ) (c : ℕ)
-    → (full_check g sheet x numbers lengths).answer ≡ Written c → spanned y ≡ nesting_of x
+    → (full_check g sheet x numbers lengths).answer ≡ Ok c → spanned y ≡ nesting_of x
     → read_back_alone y (take c (full_check g sheet x numbers lengths).numbers) held
     ≡ after_read (nesting_ranges y) (written (fine (operand_places x)) held) held
 reading_finds_the_checked g sheet x y numbers lengths held c e =
