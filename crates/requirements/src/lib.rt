@@ -176,7 +176,6 @@ pub fn target_requirement(sm: u64) -> Option<u64>
 }
 
 // The opcode's feature.
-#[tactic(auto, unfolding(crate::specs::Opcode::opcode_feature, crate::specs::Opcode::opcodes))]
 pub fn opcode_requirement(opcode: u64) -> Option<u64>
     ensures { result ≡ opcode_feature opcode }
 {
