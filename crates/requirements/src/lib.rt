@@ -6,7 +6,7 @@ ghost use Rattle.requirements.specs.Met.{architecture_met, met_by};
 ghost use Rattle.requirements.specs.Target.{target_feature};
 ghost use Rattle.requirements.specs.Opcode.{opcode_feature};
 ghost use Rattle.requirements.specs.Kind.{kind_feature};
-ghost use Rattle.requirements.specs.Attribute.{any_true, is_value, has_true, exp_rounded, attribute_feature};
+ghost use Rattle.requirements.specs.Attribute.{any_true, attribute_feature};
 
 use crate::Architecture::{Any, AtLeast, Only};
 use names::{BOOL, BOOLS, FAST_ACC, INBOUNDS, INTEGER, PRODUCER, ROUNDING_MODE, SATURATING};
@@ -204,53 +204,19 @@ fn any_true(bools: &[u64]) -> bool
     bools.contains(&1)
 }
 
-// The attribute has the wanted name, form and value.
-#[tactic(auto, unfolding(crate::specs::Attribute::is_value))]
-fn is_value(wanted: u64, written: u64, value: u64, name: u64, form: u64, number: u64) -> bool
-    ensures { result ≡ is_value wanted written value name form number }
-{
-    name == wanted && form == written && number == value
-}
-
-// The attribute has the wanted name and is a list of bools with a true one.
-#[tactic(auto, unfolding(crate::specs::Attribute::has_true))]
-fn has_true(wanted: u64, name: u64, form: u64, numbers: &[u64]) -> bool
-    ensures { result ≡ has_true wanted name form numbers.now }
-{
-    name == wanted && form == BOOLS && any_true(numbers)
-}
-
-// The attribute is a rounding mode of an exponential, and not the full one.
-#[tactic(auto, unfolding(crate::specs::Attribute::exp_rounded))]
-fn exp_rounded(opcode: u64, name: u64, form: u64, number: u64) -> bool
-    ensures { result ≡ exp_rounded opcode name form number }
-{
-    name == ROUNDING_MODE && form == INTEGER && opcode == EXP && number != FULL
-}
-
 // The feature that an attribute of an operation asks for.
-#[tactic(auto, unfolding(crate::specs::Attribute::attribute_feature))]
+#[tactic(auto, unfolding(crate::specs::Attribute::attribute_feature, crate::specs::Attribute::is_value, crate::specs::Attribute::has_true, crate::specs::Attribute::exp_rounded))]
 pub fn attribute_feature(opcode: u64, name: u64, form: u64, numbers: &[u64]) -> Option<u64>
     ensures { result ≡ attribute_feature opcode name form numbers.now }
 {
     let number = first(numbers);
-    if is_value(ROUNDING_MODE, INTEGER, AWAY, name, form, number) {
-        return Some(NEAREST_AWAY);
+    match (name, form) {
+        (ROUNDING_MODE, INTEGER) if number == AWAY => Some(NEAREST_AWAY),
+        (SATURATING, BOOL) if number == 1 => Some(SATURATING_F_TO_I),
+        (INBOUNDS, BOOLS) if any_true(numbers) => Some(INBOUNDS_FEATURE),
+        (FAST_ACC, BOOL) if number == 1 => Some(FAST_ACCUMULATION),
+        (PRODUCER, _) => Some(PRODUCER_FEATURE),
+        (ROUNDING_MODE, INTEGER) if opcode == EXP && number != FULL => Some(EXP_ROUNDING),
+        _ => None,
     }
-    if is_value(SATURATING, BOOL, 1, name, form, number) {
-        return Some(SATURATING_F_TO_I);
-    }
-    if has_true(INBOUNDS, name, form, numbers) {
-        return Some(INBOUNDS_FEATURE);
-    }
-    if is_value(FAST_ACC, BOOL, 1, name, form, number) {
-        return Some(FAST_ACCUMULATION);
-    }
-    if name == PRODUCER {
-        return Some(PRODUCER_FEATURE);
-    }
-    if exp_rounded(opcode, name, form, number) {
-        return Some(EXP_ROUNDING);
-    }
-    None
 }
