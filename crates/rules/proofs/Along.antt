@@ -1,17 +1,18 @@
 -- The operations in the order of their table: any order accepts where this one does. Assumes nothing.
-use Prim.Native.Nat.{ℕ, zero, suc, ◌+◌, ◌≤◌, ◌<◌}
+use Prim.Native.Nat.{ℕ, zero, suc, ◌+◌, ◌-◌, ◌≤◌, ◌<◌}
+use native.Mathlib.Numerals.{add-one}
 use native.Mathlib.Omega.{arith}
-use mathlib.Core.Path.{◌≡◌, refl, subst}
-use mathlib.Core.Bool.{Bool, true, false, cond}
+use mathlib.Core.Path.{◌≡◌, refl, ap, subst}
+use mathlib.Core.Bool.{Bool, true, false}
 use mathlib.Core.List.{List, [], ◌∷◌}
 use mathlib.Core.Logic.{⊎_elim}
 use lib.Dec.{eqb}
-use lib.ListN.{length}
+use lib.ListN.{length, get_or, drop}
 use borrow.Author.Tests.{eqb-true, eqb-false, le-ltb}
 use Rattle.cells.specs.Lists.{from, below}
-use Rattle.cells.proofs.Parts.{from_length}
+use Rattle.cells.proofs.Parts.{left_step, left_end}
 use Rattle.cells.proofs.Rows.{lt_or_ge}
-use Rattle.tables.specs.Answer.{each, Answer}
+use Rattle.tables.specs.Answer.{and_then, each, Answer}
 use Rattle.tables.specs.Layout.{opcode_in, attributes_in, attributes_span_in}
 use Rattle.tables.specs.Tables.{Tables}
 use Rattle.std.specs.Prelude.{Ok}
@@ -21,13 +22,24 @@ use Rattle.lookups.specs.Verdict.{fail_if}
 use Rattle.rules_small.specs.Rounding.{flushed}
 use Rattle.rules.specs.Operation.{arm_of, arm_rule, judged, verify_operation, rules}
 
--- as many operations in the order of their table, or those given in theirs
-abbrev pub along : Bool → List ℕ → List ℕ
-along straight order = cond straight (below (length order)) order
+-- asked along a list from entry k on, and along the numbers from k to the end
+module _ (f : ℕ → Answer) (k : ℕ) where
+  pub entries_step : (xs : List ℕ) → k < length xs → each f (drop k xs) ≡ and_then (f (get_or xs k 0)) (each f (drop (k + 1) xs))
+  entries_step xs h = ap (each f) (left_step xs k 0 h)
 
-pub along_length : (straight : Bool) (order : List ℕ) → length (along straight order) ≡ length order
-along_length true order = from_length 0 (length order)
-along_length false order = refl
+  pub entries_end : (xs : List ℕ) → length xs ≤ k → each f (drop k xs) ≡ Ok tt
+  entries_end xs h = ap (each f) (left_end xs k 0 h)
+
+  pub numbers_step : (end : ℕ) → k < end → each f (from k (end - k)) ≡ and_then (f k) (each f (from (k + 1) (end - (k + 1))))
+  numbers_step end h = let e : end - k ≡ suc (end - (k + 1)) = omega arith in rw (e, add-one)
+
+  pub numbers_end : (end : ℕ) → end ≤ k → each f (from k (end - k)) ≡ Ok tt
+  numbers_end end h = let e : end - k ≡ 0 = omega arith in rw e
+
+-- an operation with no attribute has none that flushes
+pub unflushed : (sheet : List ℕ) (x : Tables) (i : ℕ) → (attributes_in x.o x.counts i).len ≡ 0 → judged i (flushed sheet x i) ≡ Ok tt
+unfolding flushed flushes_in entry_in fail_if
+unflushed sheet x i e = rw e
 
 -- accepted of each number in a row
 each_in : (f : ℕ → Answer) (s n i : ℕ) → each f (from s n) ≡ Ok tt → s ≤ i → i < s + n → f i ≡ Ok tt
@@ -60,15 +72,14 @@ module _ (version : ℕ) (sheet : List ℕ) (x : Tables) where
     arm = rw no_code
 
     closing : judged i (flushed sheet x i) ≡ Ok tt
-    unfolding flushed flushes_in entry_in fail_if
-    closing = rw no_attribute
+    closing = unflushed sheet x i no_attribute
 
     unknown : verify_operation version sheet x i ≡ Ok tt
     unfolding verify_operation
     unknown = then_accepts arm closing
 
   pub in_any_order : (order : List ℕ) → x.counts.operations ≤ length order
-      → rules version sheet x (along true order) ≡ Ok tt → rules version sheet x order ≡ Ok tt
+      → rules version sheet x (below (length order)) ≡ Ok tt → rules version sheet x order ≡ Ok tt
   unfolding rules
   in_any_order order h e =
       each_accepted (verify_operation version sheet x)

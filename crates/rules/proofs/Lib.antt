@@ -1,4 +1,3 @@
-pub mod Codes
 pub mod Along
 pub mod Laws
 pub mod Cards
