@@ -13,6 +13,7 @@ use lib.ListN.{length, get_or, drop}
 use Rattle.cells.specs.Lists.{from, below, find}
 use Rattle.cells.proofs.Parts.{left_step, left_end}
 use Rattle.cells.proofs.Rows.{lt_or_ge}
+use Rattle.std.specs.List.{list_all, range_with_len}
 use Rattle.ranges.specs.Entry.{all}
 
 -- the numbers from i on
@@ -44,6 +45,15 @@ module _ (p : ℕ → Bool) (x : ℕ) (xs : List ℕ) where
 pub find_same : (p q : ℕ → Bool) → ((x : ℕ) → p x ≡ q x) → (xs : List ℕ) → find p xs ≡ find q xs
 find_same p q f [] = refl
 find_same p q f (x ∷ xs) = rw (f x, find_same p q f xs)
+
+-- the library's test of all entries of a list is ours, and its numbers are ours
+pub all_is : (p : ℕ → Bool) (xs : List ℕ) → list_all p xs ≡ all p xs
+all_is p [] = refl
+all_is p (x ∷ xs) = ap (λ (b : Bool). p x && b) (all_is p xs)
+
+pub all_from : (p : ℕ → Bool) (s n : ℕ) → list_all p (range_with_len s n) ≡ all p (from s n)
+all_from p s zero = refl
+all_from p s (suc n) = rw (add-one s) (ap (λ (b : Bool). p s && b) (all_from p (suc s) n))
 
 -- a search among the numbers below n, i of them passed
 module _ (p : ℕ → Bool) (n : ℕ) where

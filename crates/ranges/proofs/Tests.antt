@@ -1,5 +1,5 @@
 -- Tests on numbers and on bools as the code makes them and as the definitions have them. Assumes nothing.
-use mathlib.Core.Path.{◌≡◌, refl, sym, ap, ◌∙◌}
+use mathlib.Core.Path.{◌≡◌, sym, ◌∙◌}
 use mathlib.Core.Bool.{true, ◌&&◌, and_assoc}
 use mathlib.Core.Logic.{⊎_elim}
 use Prim.Native.Nat.{ℕ, suc, ◌+◌, ◌-◌, ◌*◌, ◌/◌, ◌≤◌, ◌<◌, min}

@@ -7,8 +7,7 @@ use Rattle.cells.specs.Lists.{below, find}
 use Rattle.tables.specs.Tables.{Tables, lent}
 use Rattle.tables.specs.Sheet.{fixed_flag_in, fixed_count_in, mode_mask_in, contained_mask_in, byte_width_in}
 use Rattle.tables.specs.declared.Counts.{Counts}
-use Rattle.tables.specs.Sizes.{opcodes, kinds, modes}
-use Rattle.ranges.specs.Entry.{all, all_below}
+use Rattle.ranges.specs.Entry.{all_below}
 use Rattle.tables.specs.Answer.{Answer}
 use Rattle.tables.specs.declared.Refusal.{Refusal}
 use Rattle.tables.specs.declared.Refusal.TheVariants.{OutOfRange}

@@ -4,10 +4,8 @@ use Rattle.ranges.proofs.check_sheet.Goals as goal
 
 pub returns-then-good_sheet : goal.returns-then-good_sheet
 unfolding sheet_range
-returns-then-good_sheet c =
-    rw (← c.good_sheet.ensures, c.if-good_sheet.true)
+returns-then-good_sheet c = rw (← c.good_sheet.ensures, c.if-good_sheet.true)
 
 pub returns : goal.returns
 unfolding sheet_range
-returns c =
-    rw (← c.good_sheet.ensures, c.if-good_sheet.false) c.out_of_range.ensures
+returns c = rw (← c.good_sheet.ensures, c.if-good_sheet.false)
