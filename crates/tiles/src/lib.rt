@@ -13,7 +13,7 @@ ghost use Rattle.tiles.specs.Mma.{row_of, column_of, mma_ranks_differ, mma_dims_
 
 use tables::Tables;
 
-// The kinds of elements.
+// The kinds of elements. They stay numbers: a cell may hold any other, and every test here answers on it (`same_element` tells 16 from 17).
 pub const I1: u64 = 0;
 
 pub const I4: u64 = 1;
@@ -46,7 +46,8 @@ pub const F4E2M1FN: u64 = 14;
 
 pub const F8E5M3FNU: u64 = 15;
 
-// What a rule sees of a type: form 0 is no tile, 1 a tile of numbers, 2 a tile of pointers to its kind.
+// What a rule sees of a type: form 0 is no tile, 1 a tile of numbers, 2 a tile of pointers to its kind. `tile_of` keeps any other form as it
+// stands in the cells, so it is no enum.
 #[derive(Clone, Copy)]
 pub struct Tile {
     pub form: u64,
