@@ -63,7 +63,7 @@ pub fn no_tile() -> Tile
         form: 0,
         kind: 0,
         rank: 0,
-        dims: [0i64; 8],
+        dims: [0; 8],
     }
 }
 
@@ -240,6 +240,7 @@ pub fn same_rank(a: Tile, b: Tile) -> bool
 }
 
 // Dim i of a is dim j of b.
+#[tactic(auto, using(crate::proofs::Equal::bits_test), unfolding(crate::specs::Shape::same_dim))]
 pub fn same_dim(a: Tile, i: u64, b: Tile, j: u64) -> bool
     ensures { result ≡ same_dim a i b j }
 {
@@ -279,6 +280,7 @@ pub fn uneven(small: Tile, large: Tile) -> bool
 }
 
 // A dim that a broadcast takes to this one.
+#[tactic(auto, using(crate::proofs::Equal::bits_test, crate::proofs::Equal::bits_is), unfolding(crate::specs::Shape::stretches_to))]
 fn stretches(a: i64, b: i64) -> bool
     ensures { result ≡ stretches_to a b }
 {
@@ -303,6 +305,7 @@ pub fn count(t: Tile) -> Option<i64>
 }
 
 // Two products that are i64s, and the same.
+#[tactic(auto, using(crate::proofs::Equal::bits_test))]
 pub fn same_product(p: Option<i64>, q: Option<i64>) -> bool
     ensures { result ≡ same_product p q }
 {
@@ -316,13 +319,11 @@ pub fn same_product(p: Option<i64>, q: Option<i64>) -> bool
 pub fn bits(sheet: &[u64], kind: u64) -> u64
     ensures { result ≡ bits_in sheet.now kind }
 {
-    if kind == I1 {
-        return 1;
+    match kind {
+        I1 => 1,
+        I4 | F4E2M1FN => 4,
+        _ => 8 * tables::byte_width(sheet, kind).min(8),
     }
-    if (kind == I4) | (kind == F4E2M1FN) {
-        return 4;
-    }
-    8 * tables::byte_width(sheet, kind).min(8)
 }
 
 // ---- the six shape operations
@@ -489,15 +490,13 @@ pub fn groups_outside(t: Tile, sizes: &[u64]) -> bool
 pub fn is_power_base(t: Tile) -> bool
     ensures { result ≡ is_power_base t }
 {
-    let k = t.kind;
-    is_number(t) & ((k == F16) | (k == BF16) | (k == F32) | (k == F64))
+    is_number(t) & matches!(t.kind, F16 | BF16 | F32 | F64)
 }
 
 pub fn is_power_exponent(t: Tile) -> bool
     ensures { result ≡ is_power_exponent t }
 {
-    let k = t.kind;
-    is_number(t) & ((k == I1) | (k == I8) | (k == I16) | (k == I32))
+    is_number(t) & matches!(t.kind, I1 | I8 | I16 | I32)
 }
 
 // ---- Insert and Extract
@@ -563,10 +562,12 @@ pub fn mma_dims_differ(a: Tile, b: Tile, c: Tile) -> bool
 fn is_mma_pair(input: u64, acc: u64) -> bool
     ensures { result ≡ is_mma_pair input acc }
 {
-    (((input == F4E2M1FN) | (input == F8E4M3FN) | (input == F8E5M2) | (input == F16))
-        & ((acc == F16) | (acc == F32)))
-        | (((input == BF16) | (input == TF32) | (input == F32)) & (acc == F32))
-        | ((input == F64) & (acc == F64))
+    match input {
+        F4E2M1FN | F8E4M3FN | F8E5M2 | F16 => (acc == F16) | (acc == F32),
+        BF16 | TF32 | F32 => acc == F32,
+        F64 => acc == F64,
+        _ => false,
+    }
 }
 
 pub fn is_mma_kinds(a: Tile, c: Tile) -> bool
@@ -612,14 +613,16 @@ fn vector(a: Tile, sa: Tile) -> i64
 }
 
 // The scales that MmaFScaled takes for an input, and for how many columns.
+#[tactic(auto, using(crate::proofs::Equal::bits_is), unfolding(crate::specs::Mma::is_scaled))]
 fn is_scaled(input: u64, scale: u64, vector: i64) -> bool
     ensures { result ≡ is_scaled input scale vector }
 {
-    ((input == F4E2M1FN) & (scale == F8E4M3FN) & (vector == 16))
-        | ((input == F4E2M1FN)
-            & ((scale == F8E8M0FNU) | (scale == F8E5M3FNU))
-            & ((vector == 16) | (vector == 32)))
-        | (((input == F8E4M3FN) | (input == F8E5M2)) & (scale == F8E8M0FNU) & (vector == 32))
+    match (input, scale) {
+        (F4E2M1FN, F8E4M3FN) => vector == 16,
+        (F4E2M1FN, F8E8M0FNU | F8E5M3FNU) => (vector == 16) | (vector == 32),
+        (F8E4M3FN | F8E5M2, F8E8M0FNU) => vector == 32,
+        _ => false,
+    }
 }
 
 pub fn is_scale_kinds(a: Tile, sa: Tile) -> bool
