@@ -68,6 +68,7 @@ pub fn no_tile() -> Tile
 }
 
 // The first eight numbers with these bits, with 0 after them.
+#[tactic(auto, using(crate::proofs::Dims::eight_is))]
 fn eight(bits: &[u64]) -> [i64; 8]
     ensures { result ≡ eight_of bits.now }
 {
@@ -145,6 +146,7 @@ pub fn view_tile(x: &Tables<'_>, id: u64) -> Tile
 }
 
 // The dims that count.
+#[tactic(auto, using(crate::proofs::Dims::first_dims))]
 fn shape(t: &Tile) -> &[i64]
     ensures { result.now ≡ dims_of t.now }
 {
@@ -153,6 +155,7 @@ fn shape(t: &Tile) -> &[i64]
 }
 
 // How many they are.
+#[tactic(auto, using(crate::proofs::Dims::rank_is))]
 pub fn rank(t: Tile) -> u64
     ensures { result ≡ rank_of t }
 {
@@ -247,6 +250,7 @@ pub fn same_dim(a: Tile, i: u64, b: Tile, j: u64) -> bool
     dim(a, i) == dim(b, j)
 }
 
+#[tactic(auto, using(crate::proofs::Pairs::pointwise_is), unfolding(crate::specs::Shape::same_shape, crate::specs::Shape::same_rank, crate::specs::Tile::rank_of))]
 pub fn same_shape(a: Tile, b: Tile) -> bool
     ensures { result ≡ same_shape a b }
 {
@@ -260,6 +264,7 @@ pub fn same_tile(a: Tile, b: Tile) -> bool
 }
 
 // The small number is none that divides the large one.
+#[tactic(auto, using(crate::proofs::Equal::rest_is, crate::proofs::Equal::no_divisor, crate::proofs::Equal::bits_is))]
 pub fn undivided(small: i64, large: i64) -> bool
     ensures { result ≡ undivided_by small large }
 {
@@ -459,6 +464,7 @@ fn outside(size: i64, dim: i64) -> bool
 }
 
 // No axis, or no group size of that axis.
+#[tactic(auto, using(crate::proofs::Groups::no_axis, crate::proofs::Groups::of_axis, crate::proofs::Dims::rank_is))]
 pub fn group_outside(t: Tile, every: u64, along: u64) -> bool
     ensures { result ≡ is_group_outside t (signed_of every) (signed_of along) }
 {
