@@ -21,7 +21,7 @@ use Rattle.lines.specs.declared.BadField.{BadField}
 use Rattle.lines.specs.declared.Claim.{Claim}
 use Rattle.lines.specs.declared.TypeLine.{TypeLine}
 use Rattle.lines.specs.declared.ValueLine.{ValueLine}
-use Rattle.lines.proofs.Kept.{impossible}
+pub use Rattle.lines.proofs.Kept.{impossible}
 use Rattle.lines.proofs.Lists.{sets_append}
 use Rattle.lines.proofs.Says.{function_small}
 use Rattle.stores.specs.Rows.{type_cells, value_cells}
