@@ -8,7 +8,7 @@ use Rattle.tables.specs.declared.Counts.{Counts}
 use Rattle.tables.specs.declared.Numbers.{Numbers}
 use Rattle.house.specs.State.{State}
 use Rattle.numbering.specs.Alone.{Outcome}
-use Rattle.answers.specs.Noted.{told, told_of_numbers, noted, header_noted, counts_noted}
+use Rattle.answers.specs.Noted.{told, noted, header_noted, counts_noted}
 
 -- numbers that are noted are those of what they tell
 pub noted_as : (out : List ℕ) {after : List ℕ} {k n : Numbers} → after ≡ noted k out → k ≡ n → after ≡ noted n out
@@ -22,12 +22,12 @@ answer_noted d out e q h = e ∙ ap (λ (b : Answer). noted (told b) out) (q ∙
 
 -- an outcome with its two lists
 pub outcome_left : (d : Counts → Outcome) (out : List ℕ) {after : List ℕ} {w : Outcome} {m n : Counts}
-    → w ≡ d m → m ≡ n → after ≡ noted (told_of_numbers w.answer) out
-    → (w.numbers ≡ (d n).numbers) × ((w.lengths ≡ (d n).lengths) × (after ≡ noted (told_of_numbers (d n).answer) out))
+    → w ≡ d m → m ≡ n → after ≡ noted (told w.answer) out
+    → (w.numbers ≡ (d n).numbers) × ((w.lengths ≡ (d n).lengths) × (after ≡ noted (told (d n).answer) out))
 outcome_left d out {w = w} {n = n} q h e =
     let z : w ≡ d n = q ∙ ap d h in (
       ap (λ (v : Outcome). v.numbers) z,
-      (ap (λ (v : Outcome). v.lengths) z, e ∙ ap (λ (v : Outcome). noted (told_of_numbers v.answer) out) z),
+      (ap (λ (v : Outcome). v.lengths) z, e ∙ ap (λ (v : Outcome). noted (told v.answer) out) z),
     )
 
 -- ---- a reading s that is w: the tables cell by cell under the counts that it gives, and what is noted of it

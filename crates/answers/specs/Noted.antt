@@ -1,7 +1,7 @@
 -- What an exported function takes and leaves: counts in a slice of seven, and the answer's three numbers in a slice, 0 0 0 for accepted.
-use Rattle.numbering.specs.Alone.{Numbered}
-use Rattle.std.specs.Prelude.{ℕ, List, get_or, set, Ok, Err}
-use Rattle.tables.specs.Answer.{numbers_of, Answer}
+use Rattle.std.specs.Prelude.{ℕ, List, get_or, set, Result, Ok, Err}
+use Rattle.tables.specs.Answer.{numbers_of}
+use Rattle.tables.specs.declared.Refusal.{Refusal}
 use Rattle.tables.specs.declared.Counts.{Counts}
 use Rattle.tables.specs.declared.Target.{Target}
 use Rattle.tables.specs.declared.Numbers.{Numbers}
@@ -24,14 +24,10 @@ target_of version sm = record { version = version; sm = sm }
 abbrev pub none : Numbers
 none = record { code = 0; id = 0; detail = 0 }
 
-unfoldable pub told : Answer → Numbers
+-- whatever is held where nothing is refused
+unfoldable pub told : {A : Type 0} → Result A Refusal → Numbers
 told (Ok _) = none
 told (Err r) = numbers_of r
-
--- numbers that are written are accepted
-unfoldable pub told_of_numbers : Numbered → Numbers
-told_of_numbers (Ok count) = none
-told_of_numbers (Err r) = numbers_of r
 
 -- code, id and detail, where there is room for them
 unfoldable pub noted : Numbers → List ℕ → List ℕ

@@ -2,13 +2,10 @@
 #![tactic(auto)]
 
 ghost use Rattle.std.specs.Prelude.{◌≡◌};
-ghost use Rattle.table_checks.specs.Checked.{answer_of};
-ghost use Rattle.answers.specs.Noted.{counts_of, told, told_of_numbers, noted, header_noted, counts_noted};
+ghost use Rattle.answers.specs.Noted.{counts_of, told, noted, header_noted, counts_noted};
 
 use house::Reading;
-use numbering::Numbered;
-use table_checks::Checked;
-use tables::{Answer, Counts, Numbers};
+use tables::{Counts, Numbers, Refusal};
 
 // The seven counts, in the tables' order.
 pub fn counts_of(n: &[u64]) -> Counts
@@ -25,73 +22,21 @@ pub fn counts_of(n: &[u64]) -> Counts
     }
 }
 
-// The three numbers of an answer.
-fn note(n: Numbers, out: &mut [u64])
-    ensures { out.new ≡ noted n out.old }
+// The three numbers of an answer: 0 0 0 where nothing is refused, whatever it holds then.
+pub fn note_answer<T: Copy>(answer: Result<T, Refusal>, out: &mut [u64])
+    ensures { out.new ≡ noted (told answer) out.old }
 {
-    cells::put(out, 0, n.code);
-    cells::put(out, 1, n.id);
-    cells::put(out, 2, n.detail);
-}
-
-// An answer's numbers, 0 0 0 where nothing is refused.
-fn answer_numbers(answer: Answer) -> Numbers
-    ensures { result ≡ told answer }
-{
-    match answer {
-        Ok(()) => Numbers {
+    let n = match answer {
+        Ok(_) => Numbers {
             code: 0,
             id: 0,
             detail: 0,
         },
         Err(why) => tables::numbers_of(why),
-    }
-}
-
-// What numbering answers in numbers, 0 0 0 where it has written.
-fn numbering_numbers(said: Numbered) -> Numbers
-    ensures { result ≡ told_of_numbers said }
-{
-    match said {
-        Numbered::Written { count: _ } => Numbers {
-            code: 0,
-            id: 0,
-            detail: 0,
-        },
-        Numbered::Refused(why) => tables::numbers_of(why),
-    }
-}
-
-// What the table checks answer in numbers, 0 0 0 where nothing is refused.
-fn checked_numbers(said: Checked) -> Numbers
-    ensures { result ≡ told (answer_of said) }
-{
-    match said {
-        Checked::Fine(_) => Numbers {
-            code: 0,
-            id: 0,
-            detail: 0,
-        },
-        Checked::Refused(why) => tables::numbers_of(why),
-    }
-}
-
-pub fn note_answer(answer: Answer, out: &mut [u64])
-    ensures { out.new ≡ noted (told answer) out.old }
-{
-    note(answer_numbers(answer), out);
-}
-
-pub fn note_numbered(said: Numbered, out: &mut [u64])
-    ensures { out.new ≡ noted (told_of_numbers said) out.old }
-{
-    note(numbering_numbers(said), out);
-}
-
-pub fn note_checked(said: Checked, out: &mut [u64])
-    ensures { out.new ≡ noted (told (answer_of said)) out.old }
-{
-    note(checked_numbers(said), out);
+    };
+    cells::put(out, 0, n.code);
+    cells::put(out, 1, n.id);
+    cells::put(out, 2, n.detail);
 }
 
 // The version and the sm number of a text.

@@ -3,18 +3,18 @@ use Prim.Native.Nat.{ℕ}
 use mathlib.Core.Path.{◌≡◌, ap, ◌∙◌}
 use mathlib.Core.List.{List}
 use Rattle.text_check.specs.Texts.{Texts}
-use Rattle.answers.specs.Noted.{told_of_numbers, noted}
+use Rattle.answers.specs.Noted.{told, noted}
 
-pub texts_left : (out : List ℕ) {after : List ℕ} {w v : Texts} → w ≡ v → after ≡ noted (told_of_numbers w.said.answer) out
+pub texts_left : (out : List ℕ) {after : List ℕ} {w v : Texts} → w ≡ v → after ≡ noted (told w.said.answer) out
     → (w.tables ≡ v.tables) × ((w.sheet ≡ v.sheet) × ((w.said.numbers ≡ v.said.numbers) × ((w.said.lengths ≡ v.said.lengths)
-    × (after ≡ noted (told_of_numbers v.said.answer) out))))
+    × (after ≡ noted (told v.said.answer) out))))
 texts_left out q e = (
   ap (λ (z : Texts). z.tables) q,
   (
     ap (λ (z : Texts). z.sheet) q,
     (
       ap (λ (z : Texts). z.said.numbers) q,
-      (ap (λ (z : Texts). z.said.lengths) q, e ∙ ap (λ (z : Texts). noted (told_of_numbers z.said.answer) out) q),
+      (ap (λ (z : Texts). z.said.lengths) q, e ∙ ap (λ (z : Texts). noted (told z.said.answer) out) q),
     ),
   ),
 )

@@ -14,9 +14,9 @@ ghost use Rattle.house.specs.House.{no_counts};
 ghost use Rattle.module_text.specs.Whole.{house};
 ghost use Rattle.full_check.specs.Full.{full_check};
 ghost use Rattle.text_check.specs.Texts.{texts_check};
-ghost use Rattle.answers.specs.Noted.{counts_of, target_of, told, told_of_numbers, noted, header_noted, counts_noted};
+ghost use Rattle.answers.specs.Noted.{counts_of, target_of, told, noted, header_noted, counts_noted};
 
-use tables::Target;
+use tables::{Tables, Target};
 
 // Codes 1 to 4 over tables; the answer's code, id and detail, 0 0 0 where nothing is refused.
 #[unsafe(no_mangle)]
@@ -34,26 +34,10 @@ pub extern "C" fn lavrindes_check_tables(
 )
     ensures { answer.new ≡ noted (told (table_checks (lent t.now v.now o.now a.now b.now r.now f.now l.now (counts_of counts.now)))) answer.old }
 {
+    let x = Tables::new(t, v, o, a, b, r, f, l, answers::counts_of(counts));
     // Neither the walk order nor the claims are asked for.
-    let mut order = [0u64; 0];
-    let mut bases = [0u64; 0];
-    let mut claims = [0u64; 0];
-    let n = answers::counts_of(counts);
-    let said = table_checks::check_tables(
-        t,
-        v,
-        o,
-        a,
-        b,
-        r,
-        f,
-        l,
-        n,
-        &mut order,
-        &mut bases,
-        &mut claims,
-    );
-    answers::note_checked(said, answer);
+    let said = table_checks::check_tables(&x, &mut [], &mut [], &mut []);
+    answers::note_answer(said, answer);
 }
 
 // Codes 1 to 4 and 5 over tables.
@@ -72,8 +56,8 @@ pub extern "C" fn lavrindes_check_dominance(
 )
     ensures { answer.new ≡ noted (told (dominance_alone (lent t.now v.now o.now a.now b.now r.now f.now l.now (counts_of counts.now)))) answer.old }
 {
-    let n = answers::counts_of(counts);
-    let said = dominance::dominance(t, v, o, a, b, r, f, l, n);
+    let x = Tables::new(t, v, o, a, b, r, f, l, answers::counts_of(counts));
+    let said = dominance::dominance(&x);
     answers::note_answer(said, answer);
 }
 
@@ -95,8 +79,8 @@ pub extern "C" fn lavrindes_check_requirements(
 )
     ensures { answer.new ≡ noted (told (capabilities_alone (target_of version sm) (lent t.now v.now o.now a.now b.now r.now f.now l.now (counts_of counts.now)))) answer.old }
 {
-    let n = answers::counts_of(counts);
-    let said = capability_check::check_alone(Target { version, sm }, t, v, o, a, b, r, f, l, n);
+    let x = Tables::new(t, v, o, a, b, r, f, l, answers::counts_of(counts));
+    let said = capability_check::check_alone(Target { version, sm }, &x);
     answers::note_answer(said, answer);
 }
 
@@ -119,8 +103,8 @@ pub extern "C" fn lavrindes_check_rules(
 )
     ensures { answer.new ≡ noted (told (rules_alone (target_of version sm) sheet.now (lent t.now v.now o.now a.now b.now r.now f.now l.now (counts_of counts.now)))) answer.old }
 {
-    let n = answers::counts_of(counts);
-    let said = rule_check::check_alone(Target { version, sm }, t, v, o, a, b, r, f, l, n, sheet);
+    let x = Tables::new(t, v, o, a, b, r, f, l, answers::counts_of(counts));
+    let said = rule_check::check_alone(Target { version, sm }, &x, sheet);
     answers::note_answer(said, answer);
 }
 
@@ -143,11 +127,11 @@ pub extern "C" fn lavrindes_check_numbering(
 )
     ensures numbers { numbers.new ≡ (numbering_alone sheet.now (lent t.now v.now o.now a.now b.now r.now f.now l.now (counts_of counts.now)) numbers.old lengths.old).numbers }
     ensures lengths { lengths.new ≡ (numbering_alone sheet.now (lent t.now v.now o.now a.now b.now r.now f.now l.now (counts_of counts.now)) numbers.old lengths.old).lengths }
-    ensures answer { answer.new ≡ noted (told_of_numbers (numbering_alone sheet.now (lent t.now v.now o.now a.now b.now r.now f.now l.now (counts_of counts.now)) numbers.old lengths.old).answer) answer.old }
+    ensures answer { answer.new ≡ noted (told (numbering_alone sheet.now (lent t.now v.now o.now a.now b.now r.now f.now l.now (counts_of counts.now)) numbers.old lengths.old).answer) answer.old }
 {
-    let n = answers::counts_of(counts);
-    let said = numbering::numbering(t, v, o, a, b, r, f, l, n, sheet, numbers, lengths);
-    answers::note_numbered(said, answer);
+    let x = Tables::new(t, v, o, a, b, r, f, l, answers::counts_of(counts));
+    let said = numbering::numbering(&x, sheet, numbers, lengths);
+    answers::note_answer(said, answer);
 }
 
 // Codes 1 to 3 of the nesting, 14 and 13: the place that each number names, three entries a place.
@@ -167,7 +151,9 @@ pub extern "C" fn lavrindes_read_back(
     ensures answer { answer.new ≡ noted (told (read_back_alone (nest o.now b.now r.now f.now l.now (counts_of counts.now)) numbers.now places.old).answer) answer.old }
 {
     let n = answers::counts_of(counts);
-    let said = read_back::read_back(o, b, r, f, l, n, numbers, places);
+    // It asks nothing of types, values and attributes.
+    let x = Tables::new(&[], &[], o, &[], b, r, f, l, n);
+    let said = read_back::read_back(&x, numbers, places);
     answers::note_answer(said, answer);
 }
 
@@ -228,25 +214,11 @@ pub extern "C" fn lavrindes_check_all(
 )
     ensures numbers { numbers.new ≡ (full_check (target_of version sm) sheet.now (lent t.now v.now o.now a.now b.now r.now f.now l.now (counts_of counts.now)) numbers.old lengths.old).numbers }
     ensures lengths { lengths.new ≡ (full_check (target_of version sm) sheet.now (lent t.now v.now o.now a.now b.now r.now f.now l.now (counts_of counts.now)) numbers.old lengths.old).lengths }
-    ensures answer { answer.new ≡ noted (told_of_numbers (full_check (target_of version sm) sheet.now (lent t.now v.now o.now a.now b.now r.now f.now l.now (counts_of counts.now)) numbers.old lengths.old).answer) answer.old }
+    ensures answer { answer.new ≡ noted (told (full_check (target_of version sm) sheet.now (lent t.now v.now o.now a.now b.now r.now f.now l.now (counts_of counts.now)) numbers.old lengths.old).answer) answer.old }
 {
-    let n = answers::counts_of(counts);
-    let said = full_check::check(
-        Target { version, sm },
-        t,
-        v,
-        o,
-        a,
-        b,
-        r,
-        f,
-        l,
-        n,
-        sheet,
-        numbers,
-        lengths,
-    );
-    answers::note_numbered(said, answer);
+    let x = Tables::new(t, v, o, a, b, r, f, l, answers::counts_of(counts));
+    let said = full_check::check(Target { version, sm }, &x, sheet, numbers, lengths);
+    answers::note_answer(said, answer);
 }
 
 // The check over texts, read into the lent tables and sheet: the sheet's refusal, the module's, or what the full check answers.
@@ -271,10 +243,10 @@ pub extern "C" fn lavrindes_check_texts(
     ensures sheet { sheet.new ≡ (texts_check sheet_text.now text.now (lent t.old v.old o.old a.old b.old r.old f.old l.old no_counts) sheet.old numbers.old lengths.old).sheet }
     ensures numbers { numbers.new ≡ (texts_check sheet_text.now text.now (lent t.old v.old o.old a.old b.old r.old f.old l.old no_counts) sheet.old numbers.old lengths.old).said.numbers }
     ensures lengths { lengths.new ≡ (texts_check sheet_text.now text.now (lent t.old v.old o.old a.old b.old r.old f.old l.old no_counts) sheet.old numbers.old lengths.old).said.lengths }
-    ensures answer { answer.new ≡ noted (told_of_numbers (texts_check sheet_text.now text.now (lent t.old v.old o.old a.old b.old r.old f.old l.old no_counts) sheet.old numbers.old lengths.old).said.answer) answer.old }
+    ensures answer { answer.new ≡ noted (told (texts_check sheet_text.now text.now (lent t.old v.old o.old a.old b.old r.old f.old l.old no_counts) sheet.old numbers.old lengths.old).said.answer) answer.old }
 {
     let said = text_check::check_texts(
         sheet_text, text, t, v, o, a, b, r, f, l, sheet, numbers, lengths,
     );
-    answers::note_numbered(said, answer);
+    answers::note_answer(said, answer);
 }

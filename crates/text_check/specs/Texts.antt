@@ -19,6 +19,11 @@ in_sheet r =
     let n = numbers_of r in
     cond (eqb n.code 15) (NotInForm n.id (n.detail + 100)) r
 
+-- what is said of a sheet that was read
+abbrev pub sheet_said : Answer → Answer
+sheet_said (Ok _) = Ok tt
+sheet_said (Err r) = Err (in_sheet r)
+
 -- ---- what is left at exit: the answer with the numbers and the lengths, the eight tables and the sheet
 
 pub record Texts : Type 0 where
