@@ -23,6 +23,7 @@ pub fn counts_of(n: &[u64]) -> Counts
 }
 
 // The three numbers of an answer: 0 0 0 where nothing is refused, whatever it holds then.
+#[tactic(auto, unfolding(crate::specs::Noted::told, crate::specs::Noted::noted))]
 pub fn note_answer<T: Copy>(answer: Result<T, Refusal>, out: &mut [u64])
     ensures { out.new ≡ noted (told answer) out.old }
 {
@@ -40,6 +41,7 @@ pub fn note_answer<T: Copy>(answer: Result<T, Refusal>, out: &mut [u64])
 }
 
 // The version and the sm number of a text.
+#[tactic(auto, unfolding(crate::specs::Noted::header_noted))]
 fn note_header(version: u64, sm: u64, out: &mut [u64])
     ensures { out.new ≡ header_noted version sm out.old }
 {
@@ -48,6 +50,7 @@ fn note_header(version: u64, sm: u64, out: &mut [u64])
 }
 
 // The seven counts, in the tables' order.
+#[tactic(auto, unfolding(crate::specs::Noted::counts_noted))]
 fn note_counts(n: Counts, out: &mut [u64])
     ensures { out.new ≡ counts_noted n out.old }
 {
