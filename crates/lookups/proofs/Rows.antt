@@ -1,11 +1,10 @@
 -- The cells of a type are those of its tile. Assumes nothing.
 use Prim.Native.Nat.{ℕ}
-use mathlib.Core.Path.{◌≡◌, refl, ap, ◌∙◌}
+use mathlib.Core.Path.{◌≡◌, refl}
 use mathlib.Core.List.{List}
 use Rattle.std.specs.Prelude.{Option, Some, None}
 use Rattle.tables.specs.declared.Counts.{Counts}
 use Rattle.tiles.specs.Tile.{tile_row, tile_in}
-use Rattle.tiles.specs.declared.Tile.{Tile}
 use Rattle.tiles.proofs.Rows.{no_row}
 use Rattle.lookups.specs.Typed.{row_by, tile_by}
 
@@ -14,6 +13,3 @@ pub row_tile_by : (t sheet : List ℕ) (n : Counts) (typed : Option ℕ) → til
 unfolding tile_in
 row_tile_by t sheet n (Some id) = refl
 row_tile_by t sheet n None = no_row
-
-pub made : (t sheet : List ℕ) (n : Counts) (read asked : Option ℕ) {row : List ℕ} {tile : Tile} → read ≡ asked → row ≡ row_by t sheet n read → tile ≡ tile_row row → tile ≡ tile_by t sheet n asked
-made t sheet n read asked e f g = g ∙ ap tile_row f ∙ row_tile_by t sheet n read ∙ ap (tile_by t sheet n) e
