@@ -10,7 +10,7 @@ use Rattle.std.specs.Prelude.{Option, Some, None, is_some, unwrap_or, option_map
 use Rattle.std.specs.List.{find}
 use Rattle.requirements.specs.Feature.{need, nothing_needed, any}
 use Rattle.requirements.specs.Position.{asked_at}
-use Rattle.requirements.specs.Target.{target, find_in}
+use Rattle.requirements.specs.Target.{Target, target, find_in}
 use Rattle.requirements.specs.declared.Architecture.{Architecture}
 use Rattle.requirements.specs.declared.Requirement.{Requirement}
 
@@ -24,27 +24,38 @@ asked_is table position (Some x) p q = rw (sym p) (ap Some q)
 abbrev pub row : Requirement → ℕ × Architecture
 row r = (r.since, r.architecture)
 
-pub requirement_is : (rows : List Requirement) (feature : ℕ) {item r : ℕ × Architecture} → r ≡ item → item ≡ get_or (map row rows) feature (0, any)
-    → need r.0 r.1 ≡ get_or rows feature nothing_needed
-requirement_is rows feature u e = ap (λ (r : ℕ × Architecture). need r.0 r.1) (u ∙ e ∙ get_or-map row rows feature nothing_needed)
+pub requirement_is : (rows : List Requirement) (feature : ℕ) {item r : ℕ × Architecture} → r ≡ item
+    → item ≡ get_or (map row rows) feature (0, any) → need r.0 r.1 ≡ get_or rows feature nothing_needed
+requirement_is rows feature u e =
+    ap (λ (r : ℕ × Architecture). need r.0 r.1) (u ∙ e ∙ get_or-map row rows feature nothing_needed)
+
+-- a row of the targets, and its feature
+abbrev pub target_at : ℕ × ℕ → Target
+target_at t = target t.0 t.1
+
+abbrev pub told : ℕ × ℕ → ℕ
+told t = t.1
+
+abbrev pub lent : Bor (ℕ × ℕ) → ℕ × ℕ
+lent t = t.now
 
 -- the feature of the first target found
 module _ (sm : ℕ) where
   abbrev pub has_sm : ℕ × ℕ → Bool
   has_sm t = eqb t.0 sm
 
-  turn : (b : Bool) (t : ℕ × ℕ) (r : Option (ℕ × ℕ)) → option_map (λ (t : ℕ × ℕ). t.1) (cond b (Some t) r) ≡ cond b (Some t.1) (option_map (λ (t : ℕ × ℕ). t.1) r)
+  turn : (b : Bool) (t : ℕ × ℕ) (r : Option (ℕ × ℕ)) → option_map told (cond b (Some t) r) ≡ cond b (Some (told t)) (option_map told r)
   turn true t r = refl
   turn false t r = refl
 
-  found_in : (rows : List (ℕ × ℕ)) → option_map (λ (t : ℕ × ℕ). t.1) (find has_sm rows) ≡ find_in (map (λ (t : ℕ × ℕ). target t.0 t.1) rows) sm
+  found_in : (rows : List (ℕ × ℕ)) → option_map told (find has_sm rows) ≡ find_in (map target_at rows) sm
   found_in [] = refl
   found_in (t ∷ ts) = turn (has_sm t) t (find has_sm ts) ∙ rw (found_in ts)
 
-  pub target_is : {given rows : List (ℕ × ℕ)} {r o : Option (Bor (ℕ × ℕ))} → given ≡ rows → option_map (λ (t : Bor (ℕ × ℕ)). t.now) r ≡ find has_sm rows → r ≡ o
-      → option_map (λ (t : Bor (ℕ × ℕ)). t.now.1) o ≡ find_in (map (λ (t : ℕ × ℕ). target t.0 t.1) rows) sm
-  target_is {given} {rows} {r} {o} g e s = split o ∙ ap (option_map (λ (t : ℕ × ℕ). t.1)) (ap (option_map (λ (t : Bor (ℕ × ℕ)). t.now)) (sym s) ∙ e) ∙ found_in rows
-    where
-      split : (o : Option (Bor (ℕ × ℕ))) → option_map (λ (t : Bor (ℕ × ℕ)). t.now.1) o ≡ option_map (λ (t : ℕ × ℕ). t.1) (option_map (λ (t : Bor (ℕ × ℕ)). t.now) o)
-      split None = refl
-      split (Some t) = refl
+  split : (o : Option (Bor (ℕ × ℕ))) → option_map (λ (t : Bor (ℕ × ℕ)). told t.now) o ≡ option_map told (option_map lent o)
+  split None = refl
+  split (Some t) = refl
+
+  pub target_is : {given rows : List (ℕ × ℕ)} {r o : Option (Bor (ℕ × ℕ))} → given ≡ rows → option_map lent r ≡ find has_sm rows → r ≡ o
+      → option_map (λ (t : Bor (ℕ × ℕ)). told t.now) o ≡ find_in (map target_at rows) sm
+  target_is {given} {rows} {r} {o} g e s = split o ∙ ap (option_map told) (ap (option_map lent) (sym s) ∙ e) ∙ found_in rows

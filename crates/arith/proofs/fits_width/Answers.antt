@@ -68,4 +68,5 @@ pub returns-else-fewest-v : goal.returns-else-fewest-v
 unfolding fits_width
 returns-else-fewest-v c =
     let some : 0 < c.args.bits = omega arith in
-    c.if-fewest-v.false ∙ simp (lt-ltb 0 c.args.bits some, low c.args.bits c.args.v c.ranges.v some c.if-bits-ge64.false c.if-fewest-v.false)
+    c.if-fewest-v.false
+    ∙ simp (lt-ltb 0 c.args.bits some, low c.args.bits c.args.v c.ranges.v some c.if-bits-ge64.false c.if-fewest-v.false)

@@ -10,4 +10,6 @@ pub returns : goal.returns
 unfolding features requirement_of
 returns c =
     let item = c.get.ensures.lookup in
-    requirement_is features c.args.feature (c.unwrap_or-since.ensures ∙ ap (λ o. unwrap_or o (0, any)) c.copied.ensures) (item.4 (omega arith) (0, any))
+    requirement_is features c.args.feature
+    (c.unwrap_or-since.ensures ∙ ap (λ o. unwrap_or o (0, any)) c.copied.ensures)
+    (item.4 (omega arith) (0, any))
