@@ -2,7 +2,7 @@
 use crate::said;
 use number_text::Lists;
 use table_checks::Checked;
-use tables::{Answer, Counts, Numbers, Refusal, Target};
+use tables::{Answer, Counts, Numbers, Refusal, Tables, Target};
 
 // A part of the check that can be asked alone.
 #[derive(Clone, Copy)]
@@ -164,7 +164,7 @@ fn of_tables(
         Part::Requirements => {
             said::answer(capability_check::check_alone(g, t, v, o, a, b, r, f, l, n))
         }
-        Part::Rules => said::answer(rule_check::check_alone(g, t, v, o, a, b, r, f, l, n, sheet)),
+        Part::Rules => said::answer(rule_check::check_alone(g, &Tables::new(t, v, o, a, b, r, f, l, n), sheet)),
         Part::Unknown => said::usage(),
     }
 }
