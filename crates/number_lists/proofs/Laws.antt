@@ -6,8 +6,8 @@ use mathlib.Core.Path.{◌≡◌, refl, sym, ap, ◌∙◌}
 use mathlib.Core.Bool.{Bool, true, false, cond}
 use mathlib.Core.Logic.{⊎_elim}
 use mathlib.Core.List.{List, [], ◌∷◌}
-use lib.ListN.{length, take, drop, get_or, length-drop, drop_of_length-le}
-use lib.Seq.{drop-cons, drop-drop, take_all, take-length}
+use lib.ListN.{length, take, drop, get_or, drop_of_length-le}
+use lib.Seq.{drop-cons, take_all, take-length}
 use Rattle.cells.proofs.Rows.{lt_or_ge, drop_min}
 use Rattle.tables.specs.declared.Counts.{Counts}
 use Rattle.tables.specs.Tables.{nest}
@@ -27,36 +27,35 @@ take_min k xs = ⊎_elim
     (lt_or_ge k (length xs))
 
 module _ (o b r l : List ℕ) (n : Counts) where
-  -- no function is left, or no length
-  pub none_left : (i : ℕ) (f lengths numbers : List ℕ) → length f ≤ i → all_fit o b r (drop i f) l n lengths numbers ≡ true
-  unfolding all_fit
-  none_left i f lengths numbers h = ap (λ (z : List ℕ). all_fit o b r z l n lengths numbers) (drop_of_length-le f h)
-
   no_length : (f numbers : List ℕ) → all_fit o b r f l n [] numbers ≡ true
   unfolding all_fit
   no_length [] numbers = refl
   no_length (x ∷ f) numbers = refl
 
-  pub no_length_left : (i : ℕ) (f lengths numbers : List ℕ) → length lengths ≤ i → all_fit o b r f l n (drop i lengths) numbers ≡ true
-  no_length_left i f lengths numbers h = ap (λ (z : List ℕ). all_fit o b r f l n z numbers) (drop_of_length-le lengths h) ∙ no_length f numbers
+  -- no function is left, or no length
+  pub none_left : (i : ℕ) (f lengths numbers : List ℕ) → min (length f) (length lengths) ≤ i → all_fit o b r (drop i f) l n (drop i lengths) numbers ≡ true
+  unfolding all_fit
+  none_left i f lengths numbers h = ⊎_elim
+      (λ k. ap (λ (z : List ℕ). all_fit o b r (drop i f) l n z numbers) (drop_of_length-le lengths (omega arith)) ∙ no_length (drop i f) numbers)
+      (λ k. ap (λ (z : List ℕ). all_fit o b r z l n (drop i lengths) numbers) (drop_of_length-le f k))
+      (lt_or_ge i (length f))
 
   -- the next function, with m of the numbers that are left
-  pub next_list : (i start m : ℕ) (f lengths numbers : List ℕ) → i < length f → i < length lengths → m ≡ min (get_or lengths i 0) (length numbers - start) →
-      all_fit o b r (drop i f) l n (drop i lengths) (drop start numbers)
-      ≡ cond (fits o b r (drop i f) l n (take m (drop start numbers))) (all_fit o b r (drop (i + 1) f) l n (drop (i + 1) lengths) (drop (start + m) numbers)) false
+  pub next_list : (i m : ℕ) (f lengths xs : List ℕ) → i < length f → i < length lengths → m ≡ min (length xs) (get_or lengths i 0) →
+      all_fit o b r (drop i f) l n (drop i lengths) xs
+      ≡ cond (fits o b r (drop i f) l n (take m xs)) (all_fit o b r (drop (i + 1) f) l n (drop (i + 1) lengths) (drop m xs)) false
   unfolding all_fit
-  next_list i start m f lengths numbers hf hl e =
+  next_list i m f lengths xs hf hl e =
       let k = get_or lengths i 0 in
-      let xs = drop start numbers in
-      let cut : m ≡ min k (length xs) = e ∙ rw length-drop (omega arith) in
+      let cut : m ≡ min k (length xs) = omega arith in
       let head : take k xs ≡ take m xs = sym (ap (λ (j : ℕ). take j xs) cut ∙ take_min k xs) in
-      let tail : drop k xs ≡ drop (start + m) numbers = sym (sym (drop-drop m start numbers) ∙ ap (λ (j : ℕ). drop j xs) cut ∙ drop_min xs k) in
+      let tail : drop k xs ≡ drop m xs = sym (ap (λ (j : ℕ). drop j xs) cut ∙ drop_min xs k) in
       ap (λ (z : List ℕ). all_fit o b r z l n (drop i lengths) xs) (drop-cons f i 0 hf)
       ∙ ap (λ (z : List ℕ). all_fit o b r (get_or f i 0 ∷ drop (suc i) f) l n z xs) (drop-cons lengths i 0 hl)
       ∙ ap (λ (z : List ℕ). cond (fits o b r z l n (take k xs)) (all_fit o b r (drop (suc i) f) l n (drop (suc i) lengths) (drop k xs)) false) (sym (drop-cons f i 0 hf))
       ∙ ap (λ (z : List ℕ). cond (fits o b r (drop i f) l n z) (all_fit o b r (drop (suc i) f) l n (drop (suc i) lengths) (drop k xs)) false) head
       ∙ ap (λ (z : List ℕ). cond (fits o b r (drop i f) l n (take m xs)) (all_fit o b r (drop (suc i) f) l n (drop (suc i) lengths) z) false) tail
-      ∙ ap (λ (j : ℕ). cond (fits o b r (drop i f) l n (take m xs)) (all_fit o b r (drop j f) l n (drop j lengths) (drop (start + m) numbers)) false) (sym (add-one i))
+      ∙ ap (λ (j : ℕ). cond (fits o b r (drop i f) l n (take m xs)) (all_fit o b r (drop j f) l n (drop j lengths) (drop m xs)) false) (sym (add-one i))
 
 -- from the checks to the answer
 module _ (o b r f l : List ℕ) (n : Counts) (numbers lengths held : List ℕ) (a : Answer) (e : a ≡ nesting_checks (nest o b r f l n)) where

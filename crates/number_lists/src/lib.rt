@@ -13,10 +13,7 @@ fn is_wrong(answer: Answer) -> bool
 {
     match answer {
         Ok(()) => false,
-        Err(why) => {
-            let n = tables::numbers_of(why);
-            n.detail == 0
-        }
+        Err(why) => tables::numbers_of(why).detail == 0,
     }
 }
 
@@ -24,18 +21,11 @@ fn is_wrong(answer: Answer) -> bool
 fn one_of(n: Counts) -> Counts
     ensures { result ≡ one_of n }
 {
-    Counts {
-        types: n.types,
-        values: n.values,
-        operations: n.operations,
-        attributes: n.attributes,
-        blocks: n.blocks,
-        regions: n.regions,
-        functions: 1,
-    }
+    Counts { functions: 1, ..n }
 }
 
 // The first function of f has a list of its length.
+#[tactic(auto, unfolding(crate::specs::Lists::fits))]
 fn list_fits(
     o: &[u32],
     b: &[u32],
@@ -48,11 +38,7 @@ fn list_fits(
     ensures { result ≡ fits o.now b.now r.now f.now l.now n numbers.now }
 {
     let mut none = [0u64; 1];
-    let answer = read_back::read_all(o, b, r, f, l, one_of(n), numbers, &mut none);
-    if is_wrong(answer) {
-        return false;
-    }
-    true
+    !is_wrong(read_back::read_all(o, b, r, f, l, one_of(n), numbers, &mut none))
 }
 
 // Each function has a list of its length, the numbers being parted by the lengths.
@@ -68,16 +54,13 @@ fn all_fit(
 ) -> bool
     ensures { result ≡ all_fit o.now b.now r.now f.now l.now n lengths.now numbers.now }
 {
-    let mut start: usize = 0;
-    let mut i: usize = 0;
-    while i < f.len() && i < lengths.len() {
-        let left = (numbers.len() - start) as u64;
-        let end = start + cells::least(lengths[i], left) as usize;
-        if !list_fits(o, b, r, &f[i..], l, n, &numbers[start..end]) {
+    let mut left = numbers;
+    for i in 0..f.len().min(lengths.len()) {
+        let (own, rest) = left.split_at(left.len().min(lengths[i] as usize));
+        if !list_fits(o, b, r, &f[i..], l, n, own) {
             return false;
         }
-        start = end;
-        i += 1;
+        left = rest;
     }
     true
 }
@@ -95,11 +78,7 @@ fn lists_fit(
 ) -> bool
     ensures { result ≡ parted o.now b.now r.now f.now l.now n numbers.now lengths.now }
 {
-    let functions = n.functions;
-    if functions != lengths.len() as u64 {
-        return false;
-    }
-    all_fit(o, b, r, f, l, n, lengths, numbers)
+    n.functions == lengths.len() as u64 && all_fit(o, b, r, f, l, n, lengths, numbers)
 }
 
 // The checks of reading back, then the lengths, then the places: three entries for each number. A refusal leaves the list as it was.
