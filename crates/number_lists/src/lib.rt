@@ -2,10 +2,11 @@
 #![tactic(auto)]
 
 ghost use Rattle.std.specs.Prelude.{◌≡◌};
+ghost use Rattle.tables.specs.Tables.{nest};
 ghost use Rattle.read_back.specs.Alone.{outcome};
 ghost use Rattle.number_lists.specs.Lists.{is_wrong, one_of, fits, all_fit, parted, read_lists};
 
-use tables::{Answer, Counts, Refusal};
+use tables::{Answer, Counts, Refusal, Tables};
 
 // A list of the wrong length is refused with no place.
 fn is_wrong(answer: Answer) -> bool
@@ -24,6 +25,20 @@ fn one_of(n: Counts) -> Counts
     Counts { functions: 1, ..n }
 }
 
+// The nesting alone: no types, values and attributes.
+fn nest<'a>(
+    o: &'a [u32],
+    b: &'a [u32],
+    r: &'a [u32],
+    f: &'a [u32],
+    l: &'a [u64],
+    n: Counts,
+) -> Tables<'a>
+    ensures { result ≡ nest o.now b.now r.now f.now l.now n }
+{
+    Tables::new(&[], &[], o, &[], b, r, f, l, n)
+}
+
 // The first function of f has a list of its length.
 #[tactic(auto, unfolding(crate::specs::Lists::fits))]
 fn list_fits(
@@ -38,7 +53,8 @@ fn list_fits(
     ensures { result ≡ fits o.now b.now r.now f.now l.now n numbers.now }
 {
     let mut none = [0u64; 1];
-    !is_wrong(read_back::read_all(o, b, r, f, l, one_of(n), numbers, &mut none))
+    let x = nest(o, b, r, f, l, one_of(n));
+    !is_wrong(read_back::read_all(&x, numbers, &mut none))
 }
 
 // Each function has a list of its length, the numbers being parted by the lengths.
@@ -95,12 +111,13 @@ pub fn read_lists(
 ) -> Answer
     ensures { outcome result places.new ≡ read_lists o.now b.now r.now f.now l.now n numbers.now lengths.now places.old }
 {
-    nesting_check::check_nesting(o, b, r, f, l, n)?;
+    let x = nest(o, b, r, f, l, n);
+    nesting_check::check_nesting(&x)?;
     if !lists_fit(o, b, r, f, l, n, numbers, lengths) {
         return Err(Refusal::NotReadable {
             operation: 0,
             place: 0,
         });
     }
-    read_back::read_back(o, b, r, f, l, n, numbers, places)
+    read_back::read_back(&x, numbers, places)
 }
