@@ -3,6 +3,7 @@
 
 ghost use Rattle.std.specs.Prelude.{◌≡◌, Ok};
 ghost use Rattle.tables.specs.Answer.{and_then};
+ghost use Rattle.ranges.specs.Range.{table_ranges, sheet_range};
 ghost use Rattle.walk.specs.Order.{order};
 ghost use Rattle.walk.specs.Written.{filled, written};
 ghost use Rattle.table_checks.specs.Checks.{is_version, target_check, table_checks, sheet_checks};
@@ -10,6 +11,7 @@ ghost use Rattle.table_checks.specs.Checked.{answer_of, Settles, after_cut, Hand
 
 use tables::{Answer, Refusal, Tables, Target};
 
+#[tactic(auto, unfolding(crate::specs::Checks::is_version))]
 fn is_version(minor: u64) -> bool
     ensures { result ≡ is_version minor }
 {
@@ -44,6 +46,14 @@ fn after_ranges(
     let written = walk::walk_order(x, list)?;
     values::values_claimed(x, bases, claims)?;
     Ok(written)
+}
+
+// Code 1 over the tables and the sheet.
+fn check_ranges(x: &Tables<'_>, sheet: &[u64]) -> Answer
+    ensures { result ≡ and_then (table_ranges x.now) (sheet_range sheet.now) }
+{
+    ranges::check_tables(x)?;
+    ranges::check_sheet(sheet)
 }
 
 // The answer of code 1, and where it accepts those of codes 2, 3 and 4. A refusal leaves the list all zero.
@@ -91,6 +101,5 @@ pub fn check_with_sheet(
 ) -> Result<u64, Refusal>
     ensures { Settles result list.new list.old (sheet_checks sheet.now x.now) (order x.now) × Hands (sheet_checks sheet.now x.now) x.now bases.old claims.old bases.new claims.new }
 {
-    let ranged = ranges::check_tables(x).and_then(|()| ranges::check_sheet(sheet));
-    settle(ranged, x, list, bases, claims)
+    settle(check_ranges(x, sheet), x, list, bases, claims)
 }
