@@ -4,59 +4,47 @@ ghost use Rattle.io.specs.Counts.{IsPrefixLen};
 use crate::said;
 use std::fs;
 use std::fs::File;
+use std::io;
 use std::io::Read;
 
+// As many bytes of a text as are read.
+const MOST_TEXT: usize = 65536;
+
 // What stands where no length is written: no function has so many operands.
-const NO_LENGTH: u64 = 18446744073709551615;
+const NO_LENGTH: u64 = u64::MAX;
 
 // A file that cannot be opened is told on standard error, and the card has no answer.
-pub fn card(rt: &HostRuntime, asks: &[u8], module: &str, sheet: &str) -> std::io::Result<()> {
-    said::asked(asks);
-    match fs::open(rt, sheet) {
-        Ok(file) => {
-            let mut text = io::large_buffer();
-            let n = read_full(file, &mut text);
-            with_sheet(rt, module, &text[..n])
-        }
-        Err(why) => said::unopened(rt, sheet, why),
-    }
-}
-
-fn with_sheet(rt: &HostRuntime, module: &str, sheet_text: &[u8]) -> std::io::Result<()> {
-    match fs::open(rt, module) {
-        Ok(file) => {
-            let mut text = io::large_buffer();
-            let n = read_full(file, &mut text);
-            with_texts(sheet_text, &text[..n]);
-            Ok(())
-        }
-        Err(why) => said::unopened(rt, module, why),
-    }
+pub fn card(rt: &HostRuntime, asks: &str, module: &str, sheet: &str) -> io::Result<()> {
+    said::asked(rt, asks)?;
+    let mut sheet_text = [0u8; MOST_TEXT];
+    let sheet_length = match fs::open(rt, sheet) {
+        Ok(file) => read_full(file, &mut sheet_text),
+        Err(why) => return said::unopened(rt, sheet, why),
+    };
+    let mut text = [0u8; MOST_TEXT];
+    let length = match fs::open(rt, module) {
+        Ok(file) => read_full(file, &mut text),
+        Err(why) => return said::unopened(rt, module, why),
+    };
+    with_texts(rt, &sheet_text[..sheet_length], &text[..length])
 }
 
 // Reads until the text is full, the file ends or a read fails; how many bytes it put at the start of the text.
 fn read_full(mut file: File, text: &mut [u8]) -> usize
     ensures { IsPrefixLen result text.new }
 {
-    let mut done: usize = 0;
+    let mut done = 0;
     while done < text.len() {
         match file.read(&mut text[done..]) {
-            Ok(n) => {
-                if n == 0 {
-                    return done;
-                }
-                done += n;
-            }
-            Err(_) => {
-                return done;
-            }
+            Ok(n) if n > 0 => done += n,
+            _ => break,
         }
     }
     done
 }
 
 // Tables of full size, as the paper has them.
-fn with_texts(sheet_text: &[u8], text: &[u8]) {
+fn with_texts(rt: &HostRuntime, sheet_text: &[u8], text: &[u8]) -> io::Result<()> {
     let mut t = [0u64; 16384];
     let mut v = [0u64; 16384];
     let mut o = [0u32; 32768];
@@ -83,5 +71,5 @@ fn with_texts(sheet_text: &[u8], text: &[u8]) {
         &mut numbers,
         &mut lengths,
     );
-    said::answered(answer, &numbers, &lengths);
+    said::answered(rt, answer, &numbers, &lengths)
 }

@@ -1,83 +1,56 @@
 // What is printed: what a card asks, then the paper's output.
 use cells::Span;
-use numbering::Numbered;
+use std::io;
 use tables::Refusal;
 
-const OUT: i32 = 1;
-
-pub fn asked(asks: &[u8]) {
-    text(b"card ");
-    text(asks);
-    text(b"\n");
+pub fn asked(rt: &HostRuntime, asks: &str) -> io::Result<()> {
+    println!(rt; "card {asks}")
 }
 
 // What could not be opened, and why, on standard error.
-pub fn unopened(rt: &HostRuntime, path: &str, why: std::io::Error) -> std::io::Result<()> {
+pub fn unopened(rt: &HostRuntime, path: &str, why: io::Error) -> io::Result<()> {
     eprintln!(rt; "{path}: {why}")
 }
 
 // `ok` with one `n` line a function, or one `no` line.
-pub fn answered(answer: Numbered, numbers: &[u64], lengths: &[u64]) {
+pub fn answered(
+    rt: &HostRuntime,
+    answer: Result<u64, Refusal>,
+    numbers: &[u64],
+    lengths: &[u64],
+) -> io::Result<()> {
     match answer {
-        Numbered::Written { count } => {
-            text(b"ok\n");
-            functions(numbers, lengths, count);
+        Ok(count) => {
+            println!(rt; "ok")?;
+            functions(rt, numbers, lengths, count)
         }
-        Numbered::Refused(why) => {
-            refused(why);
+        Err(why) => {
+            let n = tables::numbers_of(why);
+            println!(rt; "no\t{}\t{}\t{}", n.code, n.id, n.detail)
         }
     }
-}
-
-fn refused(why: Refusal) {
-    let n = tables::numbers_of(why);
-    text(b"no\t");
-    number(n.code);
-    text(b"\t");
-    number(n.id);
-    text(b"\t");
-    number(n.detail);
-    text(b"\n");
 }
 
 // A length above the count of all numbers is one that was not written: there are no more functions.
-fn functions(numbers: &[u64], lengths: &[u64], count: u64) {
+fn functions(rt: &HostRuntime, numbers: &[u64], lengths: &[u64], count: u64) -> io::Result<()> {
     let mut start: u64 = 0;
-    let mut i: usize = 0;
-    while i < lengths.len() {
-        let len = lengths[i];
+    for (position, &len) in lengths.iter().enumerate() {
         if count < len {
-            return;
+            break;
         }
-        function(i as u64, cells::entries(numbers, Span { start, len }));
+        print!(rt; "n\t{position}\t")?;
+        list(rt, cells::entries(numbers, Span { start, len }))?;
         start = start.wrapping_add(len);
-        i += 1;
     }
+    Ok(())
 }
 
-fn function(position: u64, numbers: &[u64]) {
-    text(b"n\t");
-    number(position);
-    text(b"\t");
-    list(numbers);
-    text(b"\n");
-}
-
-fn list(numbers: &[u64]) {
-    let mut i: usize = 0;
-    while i < numbers.len() {
+fn list(rt: &HostRuntime, numbers: &[u64]) -> io::Result<()> {
+    for (i, number) in numbers.iter().enumerate() {
         if i > 0 {
-            text(b",");
+            print!(rt; ",")?;
         }
-        number(numbers[i]);
-        i += 1;
+        print!(rt; "{number}")?;
     }
-}
-
-fn number(n: u64) {
-    io::print_decimal(OUT, n);
-}
-
-fn text(s: &[u8]) {
-    io::write_all(OUT, s);
+    println!(rt;)
 }

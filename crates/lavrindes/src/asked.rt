@@ -1,8 +1,9 @@
 // What the command asks of the texts it has read.
+use crate::module::Module;
 use crate::said;
-use number_text::Lists;
-use table_checks::Checked;
-use tables::{Answer, Counts, Numbers, Refusal, Tables, Target};
+use cells::Span;
+use std::io;
+use tables::{Answer, Refusal, Tables, Target};
 
 // A part of the check that can be asked alone.
 #[derive(Clone, Copy)]
@@ -12,267 +13,143 @@ pub enum Part {
     Numbering,
     Requirements,
     Rules,
-    Unknown,
 }
 
-pub fn part_of(name: &[u8]) -> Part {
-    if check::same(name, b"tables") {
-        return Part::Tables;
+pub fn part_of(name: &[u8]) -> Option<Part> {
+    match name {
+        b"tables" => Some(Part::Tables),
+        b"dominance" => Some(Part::Dominance),
+        b"numbering" => Some(Part::Numbering),
+        b"requirements" => Some(Part::Requirements),
+        b"rules" => Some(Part::Rules),
+        _ => None,
     }
-    if check::same(name, b"dominance") {
-        return Part::Dominance;
-    }
-    if check::same(name, b"numbering") {
-        return Part::Numbering;
-    }
-    if check::same(name, b"requirements") {
-        return Part::Requirements;
-    }
-    if check::same(name, b"rules") {
-        return Part::Rules;
-    }
-    Part::Unknown
 }
 
 // Numbering and the rules ask the sheet.
 fn takes_sheet(part: Part) -> bool {
-    match part {
-        Part::Numbering => true,
-        Part::Rules => true,
-        _ => false,
-    }
+    matches!(part, Part::Numbering | Part::Rules)
 }
 
 // No function has so many operands: what stands where no length was written.
-const NO_LENGTH: u64 = 18446744073709551615;
+const NO_LENGTH: u64 = u64::MAX;
 
 // The lengths that were written, before the first that was not.
 fn written(lengths: &[u64]) -> &[u64] {
-    let mut i: usize = 0;
-    while i < lengths.len() {
-        if lengths[i] == NO_LENGTH {
-            return &lengths[..i];
-        }
-        i += 1;
+    match lengths.iter().position(|&length| length == NO_LENGTH) {
+        Some(count) => &lengths[..count],
+        None => lengths,
     }
-    lengths
 }
 
-// So many entries from a place on, as far as the list goes.
-fn entries(list: &[u64], start: u64, len: u64) -> &[u64] {
-    cells::entries(list, cells::Span { start, len })
+// So many entries of a list, as far as it goes.
+fn first(list: &[u64], len: u64) -> &[u64] {
+    cells::entries(list, Span { start: 0, len })
 }
 
 // The check that runs all.
-pub fn whole(sheet_text: &[u8], text: &[u8]) {
-    let mut t = [0u64; 16384];
-    let mut v = [0u64; 16384];
-    let mut o = [0u32; 32768];
-    let mut a = [0u32; 32768];
-    let mut b = [0u32; 2048];
-    let mut r = [0u32; 1024];
-    let mut f = [0u32; 64];
-    let mut l = [0u64; 8192];
+pub fn whole(rt: &HostRuntime, sheet_text: &[u8], text: &[u8]) -> io::Result<()> {
+    let mut m = Module::new();
     let mut sheet = [0u64; 320];
     let mut numbers = [0u64; 8192];
     let mut lengths = [NO_LENGTH; 64];
     let answer = text_check::check_texts(
         sheet_text,
         text,
-        &mut t,
-        &mut v,
-        &mut o,
-        &mut a,
-        &mut b,
-        &mut r,
-        &mut f,
-        &mut l,
+        &mut m.types,
+        &mut m.values,
+        &mut m.operations,
+        &mut m.attributes,
+        &mut m.blocks,
+        &mut m.regions,
+        &mut m.functions,
+        &mut m.entries,
         &mut sheet,
         &mut numbers,
         &mut lengths,
     );
-    said::numbered(answer, &numbers, written(&lengths));
+    said::numbered(rt, answer, &numbers, written(&lengths))
 }
 
 // One part alone: the sheet is read first where the part asks it, then the module.
-pub fn alone(part: Part, sheet_text: &[u8], text: &[u8]) {
+pub fn alone(rt: &HostRuntime, part: Part, sheet_text: &[u8], text: &[u8]) -> io::Result<()> {
     let mut sheet = [0u64; 320];
     if takes_sheet(part) {
-        if let Err(why) = sheet::read_sheet(sheet_text, &mut sheet) {
-            said::refused(in_sheet(why));
-            return;
+        if let Err(why) = text_check::read_sheet(sheet_text, &mut sheet) {
+            return said::refusal(rt, why);
         }
     }
-    let mut t = [0u64; 16384];
-    let mut v = [0u64; 16384];
-    let mut o = [0u32; 32768];
-    let mut a = [0u32; 32768];
-    let mut b = [0u32; 2048];
-    let mut r = [0u32; 1024];
-    let mut f = [0u32; 64];
-    let mut l = [0u64; 8192];
-    let s = module_text::read_module(
-        text, &mut t, &mut v, &mut o, &mut a, &mut b, &mut r, &mut f, &mut l,
-    );
+    let mut m = Module::new();
+    let s = m.read(text);
     let read = s.answer;
     if let Err(why) = read {
-        said::refusal(why);
-        return;
+        return said::refusal(rt, why);
     }
     let g = Target {
         version: s.version,
         sm: s.sm,
     };
-    let n = s.counts;
-    of_tables(part, g, &t, &v, &o, &a, &b, &r, &f, &l, n, &sheet);
-}
-
-// A refusal of the sheet in numbers: its field is told by 100 more.
-fn in_sheet(why: Refusal) -> Numbers {
-    let n = tables::numbers_of(why);
-    if n.code != 15 {
-        return n;
-    }
-    if 100 <= n.detail {
-        return n;
-    }
-    Numbers {
-        code: n.code,
-        id: n.id,
-        detail: n.detail + 100,
-    }
-}
-
-fn of_tables(
-    part: Part,
-    g: Target,
-    t: &[u64],
-    v: &[u64],
-    o: &[u32],
-    a: &[u32],
-    b: &[u32],
-    r: &[u32],
-    f: &[u32],
-    l: &[u64],
-    n: Counts,
-    sheet: &[u64; 320],
-) {
+    let x = m.tables(s.counts);
     match part {
-        Part::Tables => said::answer(tables_alone(g, t, v, o, a, b, r, f, l, n)),
-        Part::Dominance => said::answer(dominance::dominance(t, v, o, a, b, r, f, l, n)),
-        Part::Numbering => numbering_alone(t, v, o, a, b, r, f, l, n, sheet),
-        Part::Requirements => {
-            said::answer(capability_check::check_alone(g, t, v, o, a, b, r, f, l, n))
-        }
-        Part::Rules => said::answer(rule_check::check_alone(g, &Tables::new(t, v, o, a, b, r, f, l, n), sheet)),
-        Part::Unknown => said::usage(),
+        Part::Tables => said::answer(rt, tables_alone(g, &x)),
+        Part::Dominance => said::answer(rt, dominance::dominance(&x)),
+        Part::Numbering => numbering_alone(rt, &x, &sheet),
+        Part::Requirements => said::answer(rt, capability_check::check_alone(g, &x)),
+        Part::Rules => said::answer(rt, rule_check::check_alone(g, &x, &sheet)),
     }
 }
 
 // 16, then 1 to 4.
-fn tables_alone(
-    g: Target,
-    t: &[u64],
-    v: &[u64],
-    o: &[u32],
-    a: &[u32],
-    b: &[u32],
-    r: &[u32],
-    f: &[u32],
-    l: &[u64],
-    n: Counts,
-) -> Answer {
+fn tables_alone(g: Target, x: &Tables<'_>) -> Answer {
     table_checks::check_target(g)?;
     // Neither the walk order nor the claims are asked for.
-    let mut order = [0u64; 0];
-    let mut bases = [0u64; 0];
-    let mut claims = [0u64; 0];
-    match table_checks::check_tables(
-        t,
-        v,
-        o,
-        a,
-        b,
-        r,
-        f,
-        l,
-        n,
-        &mut order,
-        &mut bases,
-        &mut claims,
-    ) {
-        Checked::Fine(_) => Ok(()),
-        Checked::Refused(why) => Err(why),
-    }
+    table_checks::check_tables(x, &mut [], &mut [], &mut [])?;
+    Ok(())
 }
 
-fn numbering_alone(
-    t: &[u64],
-    v: &[u64],
-    o: &[u32],
-    a: &[u32],
-    b: &[u32],
-    r: &[u32],
-    f: &[u32],
-    l: &[u64],
-    n: Counts,
-    sheet: &[u64],
-) {
+fn numbering_alone(rt: &HostRuntime, x: &Tables<'_>, sheet: &[u64]) -> io::Result<()> {
     let mut numbers = [0u64; 8192];
     let mut lengths = [0u64; 64];
-    let answer = numbering::numbering(t, v, o, a, b, r, f, l, n, sheet, &mut numbers, &mut lengths);
-    said::numbered(answer, &numbers, entries(&lengths, 0, n.functions));
+    let answer = numbering::numbering(x, sheet, &mut numbers, &mut lengths);
+    said::numbered(rt, answer, &numbers, first(&lengths, x.counts().functions))
 }
 
 // A number list read back: the module's nesting, then the list, then its places.
-pub fn read_back(text: &[u8], list: &[u8]) {
-    let mut t = [0u64; 16384];
-    let mut v = [0u64; 16384];
-    let mut o = [0u32; 32768];
-    let mut a = [0u32; 32768];
-    let mut b = [0u32; 2048];
-    let mut r = [0u32; 1024];
-    let mut f = [0u32; 64];
-    let mut l = [0u64; 8192];
-    let s = module_text::read_module(
-        text, &mut t, &mut v, &mut o, &mut a, &mut b, &mut r, &mut f, &mut l,
-    );
+pub fn read_back(rt: &HostRuntime, text: &[u8], list: &[u8]) -> io::Result<()> {
+    let mut m = Module::new();
+    let s = m.read(text);
     let read = s.answer;
     if let Err(why) = read {
-        said::refusal(why);
-        return;
+        return said::refusal(rt, why);
     }
-    let n = s.counts;
     let mut numbers = [0u64; 8192];
     let mut lengths = [0u64; 64];
     match number_text::read_numbers(list, &mut numbers, &mut lengths) {
-        Err(why) => said::refusal(why),
-        Ok(Lists { count, functions }) => of_lists(
-            &o,
-            &b,
-            &r,
-            &f,
-            &l,
-            n,
-            entries(&numbers, 0, count),
-            entries(&lengths, 0, functions),
+        Err(why) => said::refusal(rt, why),
+        Ok(lists) => of_lists(
+            rt,
+            &m.tables(s.counts),
+            first(&numbers, lists.count),
+            first(&lengths, lists.functions),
         ),
     }
 }
 
-fn of_lists(
-    o: &[u32],
-    b: &[u32],
-    r: &[u32],
-    f: &[u32],
-    l: &[u64],
-    n: Counts,
-    numbers: &[u64],
-    lengths: &[u64],
-) {
+fn of_lists(rt: &HostRuntime, x: &Tables<'_>, numbers: &[u64], lengths: &[u64]) -> io::Result<()> {
     let mut places = [0u64; 24576];
-    match number_lists::read_lists(o, b, r, f, l, n, numbers, lengths, &mut places) {
-        Err(why) => said::refusal(why),
-        Ok(()) => said::placed(&places, lengths),
+    let answer = number_lists::read_lists(
+        x.operation_cells(),
+        x.block_cells(),
+        x.region_cells(),
+        x.function_cells(),
+        x.entries(),
+        x.counts(),
+        numbers,
+        lengths,
+        &mut places,
+    );
+    match answer {
+        Err(why) => said::refusal(rt, why),
+        Ok(()) => said::placed(rt, &places, lengths),
     }
 }

@@ -1,130 +1,83 @@
 // The command's words, and the files that they name; `-` is standard input.
-ghost use Rattle.io.specs.Counts.{IsPrefixLen};
+ghost use Rattle.std.specs.Prelude.{◌≤◌, length, IfOk};
 
+use crate::said;
 use std::env::{Env, FillError};
 use std::fs;
+use std::io;
 use std::io::{Input, Read};
 
-// How many bytes a file gave, or that it cannot be read.
-#[derive(Clone, Copy)]
-pub enum Got {
-    Bytes(usize),
-    Unreadable,
-}
+// As many bytes of a word as are read, which hold any path.
+const MOST_WORD: usize = 4096;
 
-// What one read gave: so many bytes in all, the end, or nothing because it failed.
-#[derive(Clone, Copy)]
-enum Step {
-    Upto(usize),
-    End,
-    Failed,
+pub fn word_room() -> [u8; MOST_WORD] {
+    [0; MOST_WORD]
 }
 
 // The word at a position, as many bytes as it has; none where there is no such word or it is too long.
-pub fn word_at(rt: &HostRuntime, word: usize, room: &mut [u8]) -> usize
-    ensures { IsPrefixLen result room.new }
-{
-    rt.arg(word, room).unwrap_or(0)
+pub fn word_at<'a>(rt: &HostRuntime, word: usize, room: &'a mut [u8]) -> &'a [u8] {
+    let length = rt.arg(word, room).unwrap_or(0);
+    &room[..length]
 }
 
 // There is a word at a position.
 fn stands(rt: &HostRuntime, word: usize) -> bool {
-    let mut room = io::buffer();
-    match rt.arg(word, &mut room) {
-        Err(FillError::NotPresent) => false,
-        _ => true,
-    }
+    let mut room = word_room();
+    !matches!(rt.arg(word, &mut room), Err(FillError::NotPresent))
 }
 
 // There are so many words, the program's own name among them; there is always one.
 pub fn has_words(rt: &HostRuntime, count: usize) -> bool {
-    if count == 0 {
-        return false;
-    }
-    stands(rt, count - 1) && !stands(rt, count)
+    count > 0 && stands(rt, count - 1) && !stands(rt, count)
 }
 
 // The word at a position is `-`.
 pub fn is_input(rt: &HostRuntime, word: usize) -> bool {
-    let mut room = io::buffer();
-    let length = word_at(rt, word, &mut room);
-    is_dash(&room[..length])
+    let mut room = word_room();
+    is_dash(word_at(rt, word, &mut room))
 }
 
 fn is_dash(path: &[u8]) -> bool {
-    check::same(path, b"-")
+    path == b"-".as_slice()
 }
 
-// The bytes that are there of a buffer.
-pub fn part(text: &[u8], count: usize) -> &[u8] {
-    if count < text.len() {
-        &text[..count]
-    } else {
-        text
+// The file that a word names, as far as there is room; one that cannot be read is told.
+pub fn read<'a>(rt: &HostRuntime, word: usize, text: &'a mut [u8]) -> io::Result<Option<&'a [u8]>> {
+    let mut room = word_room();
+    let path = word_at(rt, word, &mut room);
+    match read_path(rt, path, text) {
+        Ok(length) => Ok(Some(&text[..length])),
+        Err(_) => {
+            said::unreadable(rt, path)?;
+            Ok(None)
+        }
     }
-}
-
-// The file that a word names, as far as there is room.
-pub fn read(rt: &HostRuntime, word: usize, text: &mut [u8]) -> Got {
-    let mut room = io::buffer();
-    let length = word_at(rt, word, &mut room);
-    let got = read_path(rt, &room[..length], text);
-    if let Got::Unreadable = got {
-        crate::said::unreadable(&room[..length]);
-    }
-    got
 }
 
 // std takes a path as text, so one that is no UTF-8 cannot be opened.
-fn read_path(rt: &HostRuntime, path: &[u8], text: &mut [u8]) -> Got {
+fn read_path(rt: &HostRuntime, path: &[u8], text: &mut [u8]) -> io::Result<usize>
+    ensures { IfOk result (λ n. n ≤ length text.new) }
+{
     if is_dash(path) {
         return read_to_end(rt.reader(), text);
     }
     match str::from_utf8(path) {
-        Ok(name) => read_file(rt, name, text),
-        Err(_) => Got::Unreadable,
+        Ok(name) => read_to_end(fs::open(rt, name)?, text),
+        Err(_) => Err(io::Error::from(io::ErrorKind::InvalidInput)),
     }
 }
 
-fn read_file(rt: &HostRuntime, name: &str, text: &mut [u8]) -> Got {
-    match fs::open(rt, name) {
-        Ok(file) => read_to_end(file, text),
-        Err(_) => Got::Unreadable,
-    }
-}
-
-fn read_to_end<R: Read + Drop>(mut reader: R, text: &mut [u8]) -> Got {
-    let mut done: usize = 0;
+// How many bytes a reader gave up to its end, as far as there is room.
+fn read_to_end<R: Read + Drop>(mut reader: R, text: &mut [u8]) -> io::Result<usize>
+    ensures { IfOk result (λ n. n ≤ length text.new) }
+{
+    let mut done = 0;
     while done < text.len() {
-        match read_more(&mut reader, text, done) {
-            Step::Upto(next) => {
-                if next <= done {
-                    return Got::Unreadable;
-                }
-                done = next;
-            }
-            Step::End => {
-                return Got::Bytes(done);
-            }
-            Step::Failed => {
-                return Got::Unreadable;
-            }
+        let count = reader.read(&mut text[done..])?;
+        if count == 0 {
+            break;
         }
+        done += count;
     }
-    Got::Bytes(done)
-}
-
-fn read_more<R: Read>(reader: &mut R, text: &mut [u8], done: usize) -> Step {
-    if text.len() <= done {
-        return Step::End;
-    }
-    match reader.read(&mut text[done..]) {
-        Ok(count) => {
-            if count == 0 {
-                return Step::End;
-            }
-            Step::Upto(done + count)
-        }
-        Err(_) => Step::Failed,
-    }
+    Ok(done)
 }

@@ -3,10 +3,10 @@
 
 mod asked;
 mod files;
+mod module;
 mod said;
 
-use asked::Part;
-use files::Got;
+use std::io;
 
 // What the first word asks for.
 #[derive(Clone, Copy)]
@@ -16,38 +16,33 @@ enum Word {
     Places,
     Help,
     Version,
-    Unknown,
 }
 
 const WORD: usize = 1;
 
-fn main(rt: HostRuntime) {
-    let mut room = io::buffer();
-    let length = files::word_at(&rt, WORD, &mut room);
-    let word = word_of(&room[..length]);
+fn main(rt: HostRuntime) -> io::Result<()> {
+    let mut room = files::word_room();
+    let Some(word) = word_of(files::word_at(&rt, WORD, &mut room)) else {
+        return said::usage(&rt);
+    };
     if !files::has_words(&rt, words_of(word)) {
-        said::usage();
-        return;
+        return said::usage(&rt);
     }
     match word {
         Word::Check => check(&rt, 2, 3),
         Word::Part => part(&rt, 2, 3, 4),
         Word::Places => places(&rt, 2, 3),
-        Word::Help => said::help(),
-        Word::Version => said::version(),
-        Word::Unknown => said::usage(),
+        Word::Help => said::help(&rt),
+        Word::Version => said::version(&rt),
     }
 }
 
 // How many words there are then, the program's own name among them.
 fn words_of(word: Word) -> usize {
     match word {
-        Word::Check => 4,
+        Word::Check | Word::Places => 4,
         Word::Part => 5,
-        Word::Places => 4,
-        Word::Help => 2,
-        Word::Version => 2,
-        Word::Unknown => 0,
+        Word::Help | Word::Version => 2,
     }
 }
 
@@ -61,83 +56,62 @@ fn same_input(rt: &HostRuntime, one: usize, other: usize) -> bool {
     files::is_input(rt, one) && files::is_input(rt, other)
 }
 
-fn check(rt: &HostRuntime, module: usize, sheet: usize) {
+fn check(rt: &HostRuntime, module: usize, sheet: usize) -> io::Result<()> {
     if same_input(rt, module, sheet) {
-        said::usage();
-        return;
+        return said::usage(rt);
     }
-    let mut text = [0u8; MOST_TEXT];
-    let Got::Bytes(count) = files::read(rt, module, &mut text) else {
-        return;
+    let mut room = [0u8; MOST_TEXT];
+    let Some(text) = files::read(rt, module, &mut room)? else {
+        return Ok(());
     };
-    let mut sheet_text = [0u8; MOST_TEXT];
-    let Got::Bytes(sheet_count) = files::read(rt, sheet, &mut sheet_text) else {
-        return;
+    let mut sheet_room = [0u8; MOST_TEXT];
+    let Some(sheet_text) = files::read(rt, sheet, &mut sheet_room)? else {
+        return Ok(());
     };
-    asked::whole(
-        files::part(&sheet_text, sheet_count),
-        files::part(&text, count),
-    );
+    asked::whole(rt, sheet_text, text)
 }
 
-fn part(rt: &HostRuntime, name: usize, module: usize, sheet: usize) {
-    let mut room = io::buffer();
-    let length = files::word_at(rt, name, &mut room);
-    let part = asked::part_of(&room[..length]);
-    if let Part::Unknown = part {
-        said::usage();
-        return;
-    }
+fn part(rt: &HostRuntime, name: usize, module: usize, sheet: usize) -> io::Result<()> {
+    let mut name_room = files::word_room();
+    let Some(part) = asked::part_of(files::word_at(rt, name, &mut name_room)) else {
+        return said::usage(rt);
+    };
     if same_input(rt, module, sheet) {
-        said::usage();
-        return;
+        return said::usage(rt);
     }
-    let mut text = [0u8; MOST_TEXT];
-    let Got::Bytes(count) = files::read(rt, module, &mut text) else {
-        return;
+    let mut room = [0u8; MOST_TEXT];
+    let Some(text) = files::read(rt, module, &mut room)? else {
+        return Ok(());
     };
-    let mut sheet_text = [0u8; MOST_TEXT];
-    let Got::Bytes(sheet_count) = files::read(rt, sheet, &mut sheet_text) else {
-        return;
+    let mut sheet_room = [0u8; MOST_TEXT];
+    let Some(sheet_text) = files::read(rt, sheet, &mut sheet_room)? else {
+        return Ok(());
     };
-    asked::alone(
-        part,
-        files::part(&sheet_text, sheet_count),
-        files::part(&text, count),
-    );
+    asked::alone(rt, part, sheet_text, text)
 }
 
-fn places(rt: &HostRuntime, module: usize, numbers: usize) {
+fn places(rt: &HostRuntime, module: usize, numbers: usize) -> io::Result<()> {
     if same_input(rt, module, numbers) {
-        said::usage();
-        return;
+        return said::usage(rt);
     }
-    let mut text = [0u8; MOST_TEXT];
-    let Got::Bytes(count) = files::read(rt, module, &mut text) else {
-        return;
+    let mut room = [0u8; MOST_TEXT];
+    let Some(text) = files::read(rt, module, &mut room)? else {
+        return Ok(());
     };
-    let mut list = [0u8; MOST_LIST];
-    let Got::Bytes(list_count) = files::read(rt, numbers, &mut list) else {
-        return;
+    let mut list_room = [0u8; MOST_LIST];
+    let Some(list) = files::read(rt, numbers, &mut list_room)? else {
+        return Ok(());
     };
-    asked::read_back(files::part(&text, count), files::part(&list, list_count));
+    asked::read_back(rt, text, list)
 }
 
-fn word_of(word: &[u8]) -> Word {
-    if check::same(word, b"check") {
-        return Word::Check;
+fn word_of(word: &[u8]) -> Option<Word> {
+    match word {
+        b"check" => Some(Word::Check),
+        b"part" => Some(Word::Part),
+        b"places" => Some(Word::Places),
+        b"help" => Some(Word::Help),
+        b"version" => Some(Word::Version),
+        _ => None,
     }
-    if check::same(word, b"part") {
-        return Word::Part;
-    }
-    if check::same(word, b"places") {
-        return Word::Places;
-    }
-    if check::same(word, b"help") {
-        return Word::Help;
-    }
-    if check::same(word, b"version") {
-        return Word::Version;
-    }
-    Word::Unknown
 }
