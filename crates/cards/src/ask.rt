@@ -1,5 +1,5 @@
 // One card: its two texts are read, and the check over texts is asked.
-ghost use Rattle.io.specs.Counts.{IsPrefixLen};
+ghost use Rattle.std.specs.Prelude.{◌≤◌, length};
 
 use crate::said;
 use std::fs;
@@ -31,7 +31,7 @@ pub fn card(rt: &HostRuntime, asks: &str, module: &str, sheet: &str) -> io::Resu
 
 // Reads until the text is full, the file ends or a read fails; how many bytes it put at the start of the text.
 fn read_full(mut file: File, text: &mut [u8]) -> usize
-    ensures { IsPrefixLen result text.new }
+    ensures { result ≤ length text.new }
 {
     let mut done = 0;
     while done < text.len() {
