@@ -1,13 +1,12 @@
 -- What a module text that reads leaves for code 1: ids alone. "Ids are ranged by the check; a form, kind, opcode, mode or flag outside its
 -- list, an unknown tag (field 1) or a number too wide is 15, in tables 1."
-use Rattle.std.specs.Prelude.{ℕ, ◌+◌, ◌≤◌, ◌<◌, Bool, true, false, ◌&&◌, not, ◌≡◌, ltb, get_or}
+use Rattle.std.specs.Prelude.{ℕ, ◌+◌, ◌≤◌, ◌<◌, Bool, true, false, ◌&&◌, not, ◌≡◌, ltb, get_or, Some}
 use Rattle.cells.specs.Lists.{below, find}
 use Rattle.tables.specs.Sizes.{max_types, max_values, max_operations, max_attributes, max_blocks, max_regions, max_functions, max_entries, opcodes, value_table, operation_table, block_table, region_table, function_table}
 use Rattle.tables.specs.Tables.{Tables, functions, opcode, result_types, operands, regions, arguments, operations, blocks, value_type, claim, claim_flag, result_types_span, operands_span, regions_span, attributes_span, arguments_span, operations_span, blocks_span}
 use Rattle.tables.specs.Answer.{and_then, Answer}
 use Rattle.tables.specs.declared.Refusal.{Refusal}
 use Rattle.tables.specs.declared.Refusal.TheVariants.{OutOfRange}
-use Rattle.tables.specs.declared.Claim.TheVariants.{Result}
 use Rattle.ranges.specs.Entry.{all_below, within, good_type, good_claim, good_attribute}
 use Rattle.ranges.specs.Range.{sum, stands, refused, listed_by_region, before_regions}
 use Rattle.ranges.specs.Ranged.{Below}
@@ -43,7 +42,7 @@ pub record Formed (x : Tables) : Type 0 where
 
 pub record IdsInRange (x : Tables) : Type 0 where
   pub value_types : (v : ℕ) → v < x.counts.values → value_type x v < x.counts.types
-  pub claims : (v i k : ℕ) → v < x.counts.values → claim x v ≡ Result i k → i < x.counts.operations
+  pub claims : (v i k : ℕ) → v < x.counts.values → claim x v ≡ Some (record { operation = i; index = k }) → i < x.counts.operations
   pub result_types_lem : (i : ℕ) → i < x.counts.operations → Below (result_types x i) x.counts.types
   pub operands : (i : ℕ) → i < x.counts.operations → Below (operands x i) x.counts.values
   pub regions : (i : ℕ) → i < x.counts.operations → Below (regions x i) x.counts.regions

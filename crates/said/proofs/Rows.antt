@@ -10,7 +10,7 @@ use lib.ListN.{length, get_or, take, drop, length-append, length-take, length-dr
 use lib.Seq.{sets, get_or-take, length-take-le}
 use Rattle.tables.specs.Layout.{dims_in, opcode_in, result_types_span_in, result_types_in, operands_span_in, operands_in, regions_span_in, regions_in, arguments_span_in, arguments_in, operations_span_in, operations_in, blocks_span_in, blocks_in, functions_in, value_type_in, claim_flag_in, claim_in, pointer_in, name_in, attribute_form_in, numbers_span_in, numbers_in, absent_in}
 use Rattle.tables.specs.Tables.{Tables, functions, blocks, type_rank, type_dims}
-use Rattle.tables.specs.declared.Claim.TheVariants.{Result, Nothing}
+use Rattle.std.specs.Prelude.{Some, None}
 use Rattle.lines.specs.Line.{TypeRow, OperationRow, AttributeRow, BlockRow}
 use Rattle.stores.specs.Rows.{type_cells, operation_cells, attribute_cells, block_cells, region_cells}
 use Rattle.reading.proofs.Rows.{row, cell_is, span_is, part_kept, part_new}
@@ -63,7 +63,7 @@ rank_at x i h k l r =
 -- ---- V
 
 abbrev pub value_of : List ℕ → Value
-value_of r = record { type_id = get_or r 0 0; owner = cond (eqb (get_or r 1 0) 1) (Result (get_or r 2 0) (get_or r 3 0)) Nothing }
+value_of r = record { type_id = get_or r 0 0; owner = cond (eqb (get_or r 1 0) 1) (Some (record { operation = get_or r 2 0; index = get_or r 3 0 })) None }
 
 pub value_at_lem : (x : Tables) (v : ℕ) → v < x.counts.values → value_at x v ≡ value_of (row 4 x.v v)
 unfolding value_type_in claim_in claim_flag_in

@@ -1,11 +1,10 @@
 -- What the lines of a text say, kind by kind, beside what the tables hold of each entry. What one line says is lines/specs/Line.
-use Rattle.std.specs.Prelude.{ℕ, ◌+◌, ◌<◌, Bool, cond, List, [], ◌∷◌, map, ◌≡◌, eqb, length, get_or}
+use Rattle.std.specs.Prelude.{ℕ, ◌+◌, ◌<◌, Bool, cond, List, [], ◌∷◌, map, ◌≡◌, eqb, length, get_or, Option, Some, None}
 use Prim.Native.String.{String}
 use Rattle.fields.specs.Cut.{split, nth}
 use Rattle.names.specs.Names.{bytes, equal}
 use Rattle.tables.specs.Tables.{Tables, functions, regions, blocks, operations, opcode, result_types, operands, attributes, arguments, value_type, claim, type_form, type_kind, type_pointer, type_padded, type_sparse, type_rank, type_dims, attribute_name, attribute_form, attribute_numbers, attribute_absent}
 use Rattle.tables.specs.declared.Claim.{Claim}
-use Rattle.tables.specs.declared.Claim.TheVariants.{Result, Nothing}
 use Rattle.lines.specs.Field.{Read, says, bad}
 use Rattle.lines.specs.Line.{HeaderRow, TypeRow, ValueRow, OperationRow, AttributeRow, BlockRow, header_line, type_line, value_line, operation_line, attribute_line, block_line, region_line, function_line}
 use Rattle.house.specs.State.{State}
@@ -81,7 +80,7 @@ function_at x p = get_or (functions x) p 0
 -- a value: its type and its owner
 pub record Value : Type 0 where
   pub type_id : ℕ
-  pub owner : Claim
+  pub owner : Option Claim
 
 abbrev pub value_at : Tables → ℕ → Value
 value_at x v = record { type_id = value_type x v; owner = claim x v }
@@ -108,7 +107,7 @@ type_said fs = meaning meant_type (type_line fs)
 
 -- "operation and result or two empty fields"
 abbrev pub meant_value : ValueRow → Value
-meant_value w = record { type_id = w.type; owner = cond (eqb w.claims 1) (Result w.operation w.index) Nothing }
+meant_value w = record { type_id = w.type; owner = cond (eqb w.claims 1) (Some (record { operation = w.operation; index = w.index })) None }
 
 abbrev pub value_said : List (List ℕ) → Read Value
 value_said fs = meaning meant_value (value_line fs)
