@@ -17,7 +17,7 @@ use Rattle.std.specs.Prelude.{Ok, Err}
 use Rattle.tables.specs.declared.Refusal.{Refusal}
 use Rattle.tables.specs.declared.Refusal.TheVariants.{OutOfRange}
 use Rattle.tables.specs.declared.Claim.{Claim}
-use Rattle.std.specs.Prelude.{Option, Some, None}
+use Rattle.std.specs.Prelude.{Option as Claimed, Some, None}
 use Rattle.stores.proofs.Stores.{impossible}
 use Rattle.ranges.specs.Entry.{all_below, within, good_type, good_claim, good_value, good_operation, good_attribute, good_block, good_region}
 use Rattle.ranges.specs.Range.{sum, room_at, listed_by_operation, listed_by_attribute, listed_by_block, listed_by_region, before_attributes, before_blocks, before_regions, stands, refused, first_bad, table_ranges}
@@ -154,7 +154,7 @@ module _ (x : Tables) (h : Formed x) where
   all_below_lem n [] f = refl
   all_below_lem n (y ∷ ys) f = rw (lt-ltb y n (f 0 (omega arith)), all_below_lem n ys (λ k l. f (suc k) (omega arith)))
 
-  claim_in_lem : (c : Option Claim) → ((i k : ℕ) → c ≡ Some (record { operation = i; index = k }) → i < x.counts.operations) → good_claim x c ≡ true
+  claim_in_lem : (c : Claimed Claim) → ((i k : ℕ) → c ≡ Some (record { operation = i; index = k }) → i < x.counts.operations) → good_claim x c ≡ true
   claim_in_lem None f = refl
   claim_in_lem (Some c) f = lt-ltb c.operation x.counts.operations (f c.operation c.index refl)
 

@@ -13,7 +13,6 @@ use Rattle.tables.specs.declared.Refusal.{Refusal}
 use Rattle.tables.specs.declared.Refusal.TheVariants.{OutOfRange}
 use Rattle.ranges.specs.Range.{table_ranges, good_sheet, sheet_range}
 use Rattle.ranges.proofs.Laws.{ranged}
-use Rattle.stores.proofs.Stores.{impossible}
 use Rattle.module_text.specs.Whole.{house}
 use Rattle.reading.specs.Formed.{Formed, IdsInRange, id_ranges, NamesAnId}
 use Rattle.reading.proofs.Fold.{house_kept}
@@ -40,8 +39,8 @@ sheet_refuses : (sheet : List ℕ) (q : Refusal) → sheet_range sheet ≡ Err q
 unfolding sheet_range
 sheet_refuses sheet q = by (good_sheet sheet)
   where
-    by : (t : Bool) → cond t (Ok tt) (Err (OutOfRange sheet_table 0)) ≡ Err q → q ≡ OutOfRange sheet_table 0
-    by true h = impossible (cc)
+    by : (t : Bool) → ◌≡◌ {A = Answer} (cond t (Ok tt) (Err (OutOfRange sheet_table 0))) (Err q) → q ≡ OutOfRange sheet_table 0
+    by true h = cc
     by false h = cc
 
 -- a text that reads
