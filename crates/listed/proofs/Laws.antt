@@ -11,7 +11,7 @@ use Rattle.tables.specs.Tables.{Tables}
 use Rattle.std.specs.Prelude.{Ok}
 use Rattle.listed.specs.Twice.{listed_operations, listed_blocks, listed_regions, lowest_twice, refused, listed_twice}
 use Rattle.listed.specs.Once.{Once}
-use Rattle.listed.proofs.Answers.{both_accept}
+use Rattle.tables.proofs.Each.{both_accept}
 use Rattle.listed.proofs.Find.{find_none}
 
 -- an answer that is accepted found nothing

@@ -1,4 +1,4 @@
--- Marks tell how often a list has an id: once, or more than once. A list marked entry by entry, and lists one after the other.
+-- Marks tell how often a list has an id: once, or more than once. Lists marked one after the other.
 -- Assumes nothing.
 use Prim.Native.Nat.{ℕ, zero, suc, ◌+◌, ◌≤◌, ◌<◌}
 use native.Mathlib.Omega.{arith}
@@ -6,17 +6,16 @@ use mathlib.Core.Path.{◌≡◌, refl, sym, ap, ◌∙◌}
 use mathlib.Core.Bool.{Bool, true, false, cond}
 use mathlib.Core.List.{List, [], ◌∷◌, ◌++◌}
 use lib.Dec.{eqb, ltb}
-use lib.ListN.{length, get_or, drop, length-set, replicate, length-replicate, get_or-replicate}
+use lib.ListN.{length, get_or, length-set, replicate, length-replicate, get_or-replicate}
 use lib.Seq.{get_or-set_same, get_or-set_other}
 use borrow.Author.Tests.{eqb-true, eqb-false, lt-ltb}
 use Rattle.cells.specs.Lists.{below, flat, count}
-use Rattle.cells.proofs.Parts.{left_step, left_end}
 use Rattle.listed.specs.Marks.{once_more, mark, mark_all, lowest_marked, lowest_seen}
-use Rattle.tables.specs.Tables.{Tables, cut, blocks, regions}
+use Rattle.tables.specs.Tables.{Tables, cut, functions, operations, blocks, regions}
 use Rattle.tables.specs.declared.Counts.{Counts}
 use Rattle.tables.specs.Answer.{Answer}
 use Rattle.listed.specs.Twice.{listed_operations, listed_blocks, listed_regions, lowest_twice, refused}
-use Rattle.listed.proofs.Find.{later, later_start, later_step, later_end, find_same}
+use Rattle.listed.proofs.Find.{later, later_step, find_same}
 
 -- the mark of an id that is listed n times
 abbrev pub cap : ℕ → ℕ
@@ -101,20 +100,13 @@ mark_all_append m (x ∷ xs) ys = mark_all_append (mark m x) xs ys
 pub both_marked : (z m m' xs ys : List ℕ) → m ≡ mark_all z xs → m' ≡ mark_all m ys → m' ≡ mark_all z (xs ++ ys)
 both_marked z m m' xs ys e e' = e' ∙ ap (λ (k : List ℕ). mark_all k ys) e ∙ sym (mark_all_append z xs ys)
 
--- a list, entry by entry: what is left leads to the same
-module _ (m whole xs : List ℕ) (i : ℕ) (inv : mark_all m (drop i xs) ≡ whole) where
-  pub list_step : (m' : List ℕ) (x : ℕ) → i < length xs → x ≡ get_or xs i 0 → m' ≡ mark m x → mark_all m' (drop (i + 1) xs) ≡ whole
-  list_step m' x h e k = rw (k, e) (rw (left_step xs i 0 h) at inv)
-
-  pub list_end : length xs ≤ i → m ≡ whole
-  list_end h = rw (left_end xs i 0 h) at inv
+pub operations_marked : (x : Tables) {m m' : List ℕ} → m ≡ mark_all (replicate 2048 0) (functions x)
+    → m' ≡ mark_all m (flat (operations x) (below x.counts.blocks)) → m' ≡ mark_all (replicate 2048 0) (listed_operations x)
+operations_marked x e e' = both_marked (replicate 2048 0) _ _ (functions x) (flat (operations x) (below x.counts.blocks)) e e'
 
 -- the lists of the numbers below n, one after the other, i of them done
 abbrev pub Marking : (ℕ → List ℕ) → ℕ → List ℕ → ℕ → List ℕ → Type 0
 Marking f n old i m = mark_all m (flat f (later n i)) ≡ mark_all old (flat f (below n))
-
-pub lists_start : (f : ℕ → List ℕ) (n : ℕ) (old : List ℕ) → Marking f n old 0 old
-lists_start f n old = rw (later_start n)
 
 module _ (f : ℕ → List ℕ) (n : ℕ) (old : List ℕ) (i : ℕ) (m : List ℕ) (inv : Marking f n old i m) where
   pub lists_step : (m' xs : List ℕ) → i < n → xs ≡ f i → m' ≡ mark_all m xs → Marking f n old (i + 1) m'
@@ -122,6 +114,3 @@ module _ (f : ℕ → List ℕ) (n : ℕ) (old : List ℕ) (i : ℕ) (m : List �
       ap (λ (z : List ℕ). mark_all z (flat f (later n (i + 1)))) (k ∙ ap (mark_all m) e)
       ∙ sym (mark_all_append m (f i) (flat f (later n (i + 1))))
       ∙ (rw (later_step n i h) at inv)
-
-  pub lists_end : n ≤ i → m ≡ mark_all old (flat f (below n))
-  lists_end h = rw (later_end n i h) at inv

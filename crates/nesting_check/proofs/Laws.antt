@@ -19,7 +19,7 @@ use Rattle.ranges.specs.Part.{good_list}
 use Rattle.ranges.proofs.Tests.{operation_tests, block_tests}
 use Rattle.ranges.proofs.Verdict as all
 use Rattle.listed.specs.Twice.{listed_twice}
-use Rattle.listed.proofs.Answers.{both_accept}
+use Rattle.tables.proofs.Each.{both_accept}
 use Rattle.walk.specs.Depth.{too_deep}
 use Rattle.nesting_check.specs.Checks.{nested_operation, nested_block, up_to_operations, up_to_blocks, nesting_ranges, nesting_checks}
 use Rattle.nesting_check.proofs.Ranged.{on_operations, on_blocks, on_regions, on_functions, passes}

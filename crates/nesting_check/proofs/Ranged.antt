@@ -27,7 +27,7 @@ use Rattle.ranges.specs.declared.Pass.{Pass}
 use Rattle.ranges.specs.Ranged.{Below}
 use Rattle.ranges.proofs.Find.{all_pass, all_at}
 use Rattle.listed.specs.Twice.{listed_twice}
-use Rattle.listed.proofs.Answers.{both_accept}
+use Rattle.tables.proofs.Each.{both_accept}
 use Rattle.nesting_check.specs.Checks.{nested_operation, nested_block, up_to_operations, up_to_blocks, nesting_ranges}
 
 module _ (x : Tables) where

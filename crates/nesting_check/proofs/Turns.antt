@@ -7,7 +7,7 @@ use Rattle.std.specs.Prelude.{Result, Ok, Err}
 use Rattle.tables.specs.declared.Refusal.{Refusal}
 use Rattle.listed.specs.Twice.{listed_twice}
 use Rattle.listed.specs.Once.{Once}
-use Rattle.listed.proofs.Answers.{ends, goes_on, both_accept}
+use Rattle.tables.proofs.Each.{ends, goes_on, both_accept}
 use Rattle.listed.proofs.Laws.{once}
 use Rattle.walk.specs.Depth.{too_deep}
 use Rattle.walk.specs.Written.{told}

@@ -1,5 +1,5 @@
--- Going through the numbers below n: the start, a step and the end of what is left; a search for the first with a property, and a test of
--- all, one number at a time; and what a search that finds nothing says. Over any property. Assumes nothing.
+-- Going through the numbers below n: a step and the end of what is left; a search for the first with a property, one
+-- number at a time; what a search that finds nothing says; and a test of all. Over any property. Assumes nothing.
 use mathlib.Core.Path.{◌≡◌, refl, sym, ap, ◌∙◌}
 use mathlib.Core.Bool.{Bool, true, false, ◌&&◌, not, cond, and-eq-true_iff}
 use mathlib.Core.List.{List, [], ◌∷◌}
@@ -9,9 +9,8 @@ use Prim.Native.Nat.{ℕ, zero, suc, ◌+◌, ◌-◌, ◌≤◌, ◌<◌}
 use native.Mathlib.Numerals.{add-one}
 use native.Mathlib.Omega.{arith}
 use borrow.Author.Tests.{not-false}
-use lib.ListN.{length, get_or, drop}
+use lib.ListN.{length, get_or}
 use Rattle.cells.specs.Lists.{from, below, find}
-use Rattle.cells.proofs.Parts.{left_step, left_end}
 use Rattle.cells.proofs.Rows.{lt_or_ge}
 use Rattle.std.specs.List.{list_all, range_with_len}
 use Rattle.ranges.specs.Entry.{all}
@@ -35,17 +34,6 @@ module _ (p : ℕ → Bool) (x : ℕ) (xs : List ℕ) where
   find_later : p x ≡ false → find p (x ∷ xs) ≡ find p xs
   find_later e = ap (λ (b : Bool). cond b (some x) (find p xs)) e
 
-  all_here : p x ≡ false → all p (x ∷ xs) ≡ false
-  all_here e = ap (λ (b : Bool). b && all p xs) e
-
-  all_later : p x ≡ true → all p (x ∷ xs) ≡ all p xs
-  all_later e = ap (λ (b : Bool). b && all p xs) e
-
--- two properties that say the same find the same
-pub find_same : (p q : ℕ → Bool) → ((x : ℕ) → p x ≡ q x) → (xs : List ℕ) → find p xs ≡ find q xs
-find_same p q f [] = refl
-find_same p q f (x ∷ xs) = rw (f x, find_same p q f xs)
-
 -- the library's test of all entries of a list is ours, and its numbers are ours
 pub all_is : (p : ℕ → Bool) (xs : List ℕ) → list_all p xs ≡ all p xs
 all_is p [] = refl
@@ -60,11 +48,6 @@ module _ (p : ℕ → Bool) (n : ℕ) where
   abbrev pub Passed : ℕ → Type 0
   Passed i = (i ≤ n) × (find p (below n) ≡ find p (from i (n - i)))
 
-  pub pass_start : Passed 0
-  pass_start =
-      let e : n ≡ n - 0 = omega arith in
-      (omega arith, ap (λ (k : ℕ). find p (from 0 k)) e)
-
   module _ (i : ℕ) (inv : Passed i) where
     pub pass_step : i < n → p i ≡ false → Passed (i + 1)
     pass_step h e = (omega arith, inv.1 ∙ ap (find p) (from_step n i h) ∙ find_later p i (from (i + 1) (n - (i + 1))) e)
@@ -74,44 +57,6 @@ module _ (p : ℕ → Bool) (n : ℕ) where
 
     pub pass_end : n ≤ i → find p (below n) ≡ none
     pass_end h = inv.1 ∙ ap (find p) (from_end n i h)
-
--- a test of all numbers below n, i of them passed
-module _ (p : ℕ → Bool) (n : ℕ) where
-  abbrev pub Tested : ℕ → Type 0
-  Tested i = (i ≤ n) × (all p (below n) ≡ all p (from i (n - i)))
-
-  pub test_start : Tested 0
-  test_start =
-      let e : n ≡ n - 0 = omega arith in
-      (omega arith, ap (λ (k : ℕ). all p (from 0 k)) e)
-
-  module _ (i : ℕ) (inv : Tested i) where
-    pub test_step : i < n → p i ≡ true → Tested (i + 1)
-    test_step h e = (omega arith, inv.1 ∙ ap (all p) (from_step n i h) ∙ all_later p i (from (i + 1) (n - (i + 1))) e)
-
-    pub test_stop : i < n → p i ≡ false → false ≡ all p (below n)
-    test_stop h e = sym (inv.1 ∙ ap (all p) (from_step n i h) ∙ all_here p i (from (i + 1) (n - (i + 1))) e)
-
-    pub test_end : n ≤ i → true ≡ all p (below n)
-    test_end h = sym (inv.1 ∙ ap (all p) (from_end n i h))
-
--- a test of all entries of a list, i of them passed
-module _ (p : ℕ → Bool) (xs : List ℕ) where
-  abbrev pub Along : ℕ → Type 0
-  Along i = (i ≤ length xs) × (all p xs ≡ all p (drop i xs))
-
-  pub along_start : Along 0
-  along_start = (omega arith, refl)
-
-  module _ (i : ℕ) (inv : Along i) where
-    pub along_step : i < length xs → p (get_or xs i 0) ≡ true → Along (i + 1)
-    along_step h e = (omega arith, inv.1 ∙ ap (all p) (left_step xs i 0 h) ∙ all_later p (get_or xs i 0) (drop (i + 1) xs) e)
-
-    pub along_stop : i < length xs → p (get_or xs i 0) ≡ false → false ≡ all p xs
-    along_stop h e = sym (inv.1 ∙ ap (all p) (left_step xs i 0 h) ∙ all_here p (get_or xs i 0) (drop (i + 1) xs) e)
-
-    pub along_end : length xs ≤ i → true ≡ all p xs
-    along_end h = sym (inv.1 ∙ ap (all p) (left_end xs i 0 h))
 
 -- a search that finds nothing: no number has the property
 find_none : (p : ℕ → Bool) (s n : ℕ) → find p (from s n) ≡ none → (i : ℕ) → s ≤ i → i < s + n → p i ≡ false

@@ -15,7 +15,7 @@ use Rattle.cells.specs.declared.Span.{Span}
 use Rattle.cells.proofs.Parts.{entries_whole}
 use Rattle.cells.proofs.Rows.{lt_or_ge}
 use Rattle.names.specs.Names.{names}
-use Rattle.tables.specs.Answer.{and_then, Answer}
+use Rattle.tables.proofs.Each.{both_accept}
 use Rattle.tables.specs.Layout.{counted_span, result_types_span_in, operands_span_in, regions_span_in, attributes_span_in, arguments_span_in, operations_span_in, blocks_span_in, blocks_in, numbers_span_in, numbers_in, result_types_in, operands_in, regions_in, arguments_in, operations_in, claim_in, claim_flag_in, functions_in}
 use Rattle.tables.specs.Sizes.{max_types, max_values, max_operations, max_attributes, max_blocks, max_regions, max_functions, opcodes, type_table, value_table, operation_table, attribute_table, block_table, region_table, function_table}
 use Rattle.tables.specs.Tables.{Tables, cut, functions, opcode, value_type, claim, claim_flag, attribute_name, attribute_form, attribute_numbers, attribute_absent, result_types_span, operands_span, regions_span, attributes_span, numbers_span, arguments_span, operations_span, blocks_span}
@@ -30,11 +30,7 @@ use Rattle.ranges.proofs.Find.{all_pass, all_at}
 use Rattle.ranges.proofs.Tests.{block_tests, operation_tests}
 use Rattle.ranges.proofs.Verdict.{on_types, on_values, on_operations, on_attributes, on_blocks, on_regions, on_functions, from_values, from_operations, from_attributes, from_blocks, from_regions}
 
--- two answers of which neither refuses, and two tests that hold
-both_accepted : (a b : Answer) → and_then a b ≡ Ok tt → (a ≡ Ok tt) × (b ≡ Ok tt)
-both_accepted (Ok _) b e = (refl, e)
-both_accepted (Err r) b e = absurd (let y : ◌≡◌ {A = ℕ} 0 1 = cc in omega arith)
-
+-- two tests that hold
 both : (a b : Bool) → (a && b) ≡ true → (a ≡ true) × (b ≡ true)
 both a b e = (and-eq-true_iff a b).0 e
 
@@ -101,22 +97,22 @@ module _ (x : Tables) (e : table_ranges x ≡ Ok tt) where
   -- every table passes
   types_passed : (on_types x ≡ Ok tt) × (from_values x ≡ Ok tt)
   unfolding table_ranges
-  types_passed = both_accepted (on_types x) (from_values x) e
+  types_passed = both_accept (on_types x) (from_values x) e
 
   values_passed : (on_values x ≡ Ok tt) × (from_operations x ≡ Ok tt)
-  values_passed = both_accepted (on_values x) (from_operations x) types_passed.1
+  values_passed = both_accept (on_values x) (from_operations x) types_passed.1
 
   operations_passed : (on_operations x ≡ Ok tt) × (from_attributes x ≡ Ok tt)
-  operations_passed = both_accepted (on_operations x) (from_attributes x) values_passed.1
+  operations_passed = both_accept (on_operations x) (from_attributes x) values_passed.1
 
   attributes_passed : (on_attributes x ≡ Ok tt) × (from_blocks x ≡ Ok tt)
-  attributes_passed = both_accepted (on_attributes x) (from_blocks x) operations_passed.1
+  attributes_passed = both_accept (on_attributes x) (from_blocks x) operations_passed.1
 
   blocks_passed : (on_blocks x ≡ Ok tt) × (from_regions x ≡ Ok tt)
-  blocks_passed = both_accepted (on_blocks x) (from_regions x) attributes_passed.1
+  blocks_passed = both_accept (on_blocks x) (from_regions x) attributes_passed.1
 
   regions_passed : (on_regions x ≡ Ok tt) × (on_functions x ≡ Ok tt)
-  regions_passed = both_accepted (on_regions x) (on_functions x) blocks_passed.1
+  regions_passed = both_accept (on_regions x) (on_functions x) blocks_passed.1
 
   -- every entry that counts is good, and there is room for its lists
   pub every_type : (i : ℕ) → i < x.counts.types → good_type x i ≡ true

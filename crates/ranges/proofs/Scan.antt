@@ -1,4 +1,4 @@
--- A pass over a table, entry by entry: the start, a step, a stop at the first bad entry and the end, for a table with and without lists.
+-- A pass over a table, entry by entry: a step, a stop at the first bad entry and the end, for a table with and without lists.
 -- Over the table's size, width and tests. Assumes nothing.
 use mathlib.Core.Path.{◌≡◌, sym, ap, ◌∙◌}
 use mathlib.Core.Bool.{Bool, true, false, ◌&&◌, not, and-eq-true_iff}
@@ -14,7 +14,7 @@ use Rattle.tables.specs.declared.Refusal.TheVariants.{OutOfRange}
 use Rattle.ranges.specs.Range.{sum, room_at, refused}
 use Rattle.ranges.specs.Part.{stands_in, first_of, scanned, scan_of}
 use Rattle.ranges.specs.declared.Pass.{Pass}
-use Rattle.ranges.proofs.Find.{Passed, pass_start, pass_step, pass_stop, pass_end}
+use Rattle.ranges.proofs.Find.{Passed, pass_step, pass_stop, pass_end}
 
 -- an entry that is refused
 abbrev pub bad : Pass → (ℕ → Bool) → ℕ → Bool
@@ -44,9 +44,6 @@ module _ (t : Pass) (good : ℕ → Bool) (listed : ℕ → ℕ) (before : ℕ) 
 
   abbrev pub Scan : ℕ → ℕ → Type 0
   Scan used i = Passed (bad t good_with_room) t.count i × (used ≡ before + sum listed i)
-
-  pub scan_start : Scan before 0
-  scan_start = (pass_start (bad t good_with_room) t.count, omega arith)
 
   module _ (used i : ℕ) (inv : Scan used i) where
     module _ (h : i < t.count) (a b : Bool) (ea : a ≡ stands_in t i) (eb : b ≡ good i)

@@ -1,41 +1,16 @@
--- What the check of one table reads of the tables, and what a pass over a table answers.
-use Rattle.std.specs.Prelude.{ℕ, ◌+◌, ◌^◌, Bool, ◌&&◌, not, List, [], ltb, leb, length, suc, ◌*◌, Result, Ok, Err}
+-- A list of ids in range, what a pass over a table answers, and the sheet by its parts.
+use Rattle.std.specs.Prelude.{ℕ, ◌+◌, ◌^◌, Bool, ◌&&◌, not, List, ltb, leb, length, suc, ◌*◌, Result, Ok, Err}
 use Rattle.std.proofs.Math.Option.{Option, some, none}
 use Rattle.cells.specs.Cell.{entries_of}
 use Rattle.cells.specs.declared.Span.{Span}
 use Rattle.cells.specs.Lists.{below, find}
-use Rattle.tables.specs.Tables.{Tables, lent}
 use Rattle.tables.specs.Sheet.{fixed_flag_in, fixed_count_in, mode_mask_in, contained_mask_in, byte_width_in}
-use Rattle.tables.specs.declared.Counts.{Counts}
 use Rattle.ranges.specs.Entry.{all_below}
 use Rattle.tables.specs.Answer.{Answer}
 use Rattle.tables.specs.declared.Refusal.{Refusal}
 use Rattle.tables.specs.declared.Refusal.TheVariants.{OutOfRange}
 use Rattle.ranges.specs.Range.{sum, room_at, refused, good_count}
 use Rattle.ranges.specs.declared.Pass.{Pass}
-
--- ---- the tables as far as the entries of one of them speak of them
-
-abbrev pub tables_of_types : List ℕ → Counts → Tables
-tables_of_types t n = lent t [] [] [] [] [] [] [] n
-
-abbrev pub tables_of_values : List ℕ → Counts → Tables
-tables_of_values v n = lent [] v [] [] [] [] [] [] n
-
-abbrev pub tables_of_operations : List ℕ → List ℕ → Counts → Tables
-tables_of_operations o l n = lent [] [] o [] [] [] [] l n
-
-abbrev pub tables_of_attributes : List ℕ → List ℕ → Counts → Tables
-tables_of_attributes a l n = lent [] [] [] a [] [] [] l n
-
-abbrev pub tables_of_blocks : List ℕ → List ℕ → Counts → Tables
-tables_of_blocks b l n = lent [] [] [] [] b [] [] l n
-
-abbrev pub tables_of_regions : List ℕ → List ℕ → Counts → Tables
-tables_of_regions r l n = lent [] [] [] [] [] r [] l n
-
-abbrev pub tables_of_functions : List ℕ → Counts → Tables
-tables_of_functions f n = lent [] [] [] [] [] [] f [] n
 
 -- a list is whole among the list entries and holds ids below n alone
 abbrev pub good_list : List ℕ → Span → ℕ → Bool

@@ -6,7 +6,7 @@ use mathlib.Core.List.{List}
 use Rattle.tables.specs.Tables.{Tables}
 use Rattle.tables.specs.Answer.{and_then, Answer}
 use Rattle.std.specs.Prelude.{Ok, Err}
-use Rattle.listed.proofs.Answers.{both_accept}
+use Rattle.tables.proofs.Each.{both_accept}
 use Rattle.ranges.specs.Range.{table_ranges, sheet_range}
 use Rattle.ranges.specs.Ranged.{Ranged}
 use Rattle.ranges.proofs.Laws.{ranged}

@@ -19,7 +19,3 @@ module _ (got first rest : Answer) (e : got ≡ first) where
 
   pub passes : got ≡ Ok tt → and_then first rest ≡ rest
   passes q = rw (← e, q)
-
--- a refusal accepts nothing
-pub no_refusal {ℓ} : {X : Type ℓ} {why : Refusal} → ◌≡◌ {A = Answer} (Err why) (Ok tt) → X
-no_refusal e = absurd (let z : ◌≡◌ {A = ℕ} 0 1 = cc in omega arith)

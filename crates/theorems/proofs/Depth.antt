@@ -11,7 +11,7 @@ use Rattle.tables.specs.Tables.{Tables, functions, regions, blocks, operations}
 use Rattle.tables.specs.Answer.{and_then, each, Answer}
 use Rattle.std.specs.Prelude.{Ok}
 use Rattle.listed.specs.Twice.{listed_twice}
-use Rattle.listed.proofs.Answers.{both_accept}
+use Rattle.tables.proofs.Each.{both_accept}
 use Rattle.walk.specs.Depth.{opens, operation_depth, block_depth, region_depth, too_deep}
 use Rattle.walk.specs.Order.{operation_order, block_order, region_order, order_to, order}
 use Rattle.table_checks.specs.Checks.{table_checks}

@@ -9,7 +9,7 @@ use Rattle.tables.specs.Sizes.{max_depth}
 use Rattle.tables.specs.Tables.{Tables, functions, regions, blocks, operations}
 use Rattle.tables.specs.Answer.{each, Answer}
 use Rattle.std.specs.Prelude.{Ok}
-use Rattle.listed.proofs.Answers.{both_accept}
+use Rattle.tables.proofs.Each.{both_accept}
 use Rattle.walk.specs.Depth.{operation_depth, block_depth, region_depth, too_deep}
 use Rattle.walk.specs.Order.{operation_order, block_order, region_order}
 use Rattle.nesting.specs.In.{In, here, later}

@@ -13,7 +13,7 @@ use Rattle.tables.specs.Answer.{Answer}
 use Rattle.std.specs.Prelude.{Ok, Err}
 use Rattle.tables.specs.declared.Refusal.TheVariants.{TooShort}
 use Rattle.tables.specs.declared.Target.{Target}
-use Rattle.listed.proofs.Answers.{both_accept}
+use Rattle.tables.proofs.Each.{both_accept}
 use Rattle.ranges.specs.Range.{table_ranges}
 use Rattle.listed.specs.Twice.{listed_twice}
 use Rattle.table_checks.specs.Checks.{target_check, after_ranges, table_checks, sheet_checks}

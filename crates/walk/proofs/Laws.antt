@@ -14,8 +14,9 @@ use Rattle.cells.proofs.Rows.{lt_or_ge}
 use Rattle.tables.specs.Sizes.{max_depth}
 use Rattle.tables.specs.Layout.{regions_span_in, regions_in, blocks_span_in, blocks_in, operations_span_in, operations_in}
 use Rattle.tables.specs.Tables.{Tables, functions, regions, blocks, operations}
-use Rattle.tables.specs.Answer.{and_then, each, Answer}
-use Rattle.std.specs.Prelude.{Ok, Err}
+use Rattle.tables.proofs.Each.{both_accept}
+use Rattle.tables.specs.Answer.{each, Answer}
+use Rattle.std.specs.Prelude.{Ok}
 use Rattle.walk.specs.Order.{operation_order, block_order, region_order, order_to, order}
 use Rattle.walk.specs.Depth.{opens, operation_depth, block_depth, region_depth, too_deep}
 use Rattle.walk.specs.Written.{filled, written}
@@ -181,10 +182,6 @@ module _
 
 -- ---- where code 3 passes
 
-both_accepted : (a b : Answer) → and_then a b ≡ Ok tt → (a ≡ Ok tt) × (b ≡ Ok tt)
-both_accepted (Ok _) b e = (refl, e)
-both_accepted (Err r) b e = absurd (let z : ◌≡◌ {A = ℕ} 0 1 = cc in omega arith)
-
 opens_none : (i : ℕ) (js : List ℕ) → opens i js ≡ Ok tt → js ≡ []
 opens_none i [] e = refl
 opens_none i (j ∷ js) e = absurd (let z : ◌≡◌ {A = ℕ} 0 1 = cc in omega arith)
@@ -192,7 +189,7 @@ opens_none i (j ∷ js) e = absurd (let z : ◌≡◌ {A = ℕ} 0 1 = cc in omeg
 flat_same : (f : ℕ → Answer) (g h : ℕ → List ℕ) → ((k : ℕ) → f k ≡ Ok tt → g k ≡ h k) → (ks : List ℕ) → each f ks ≡ Ok tt → flat g ks ≡ flat h ks
 flat_same f g h s [] e = refl
 flat_same f g h s (k ∷ ks) e =
-    let q = both_accepted (f k) (each f ks) e in
+    let q = both_accept (f k) (each f ks) e in
     rw (s k q.0, flat_same f g h s ks q.1)
 
 module _ (x : Tables) where

@@ -4,7 +4,7 @@ use Rattle.std.proofs.Common.{rules}
 use Rattle.std.specs.Prelude.{Err}
 use Rattle.tables.specs.Tables.{blocks, regions}
 use Rattle.listed.specs.Twice.{listed_twice}
-use Rattle.listed.proofs.Answers.{ends, goes_on}
+use Rattle.tables.proofs.Each.{ends, goes_on}
 use Rattle.listed.proofs.Marks.{operations_seen, blocks_seen, regions_seen}
 use Rattle.listed.proofs.listed_twice.Goals as goal
 
