@@ -62,7 +62,7 @@ look_sized live i k (v ∷ vs) =
     (sized_join (found (position_from 0 v live) (NoNumber i k)) (look_up live i (suc k) vs) 1 (length vs) (found_sized (position_from 0 v live) (NoNumber i k)) (look_sized live i (suc k) vs))
     (omega arith)
 
-counted_sized : (f : Option ℕ) (i n : ℕ) → Sized (counted f i n) 0
+counted_sized : (f : std.Option ℕ) (i n : ℕ) → Sized (counted f i n) 0
 counted_sized None i n = refl
 counted_sized (Some m) i n = go (eqb m n)
   where

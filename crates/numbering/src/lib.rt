@@ -30,8 +30,9 @@ fn visit_functions<const N: usize>(
 ) -> Result<u64, Refusal>
     ensures { Tells x.now claims.now.bases.now claims.now.claims.now → Room x.now stack.old numbers.old lengths.old → Told result (entries_numbered sheet.now x.now) (sizes x.now) numbers.new lengths.new numbers.old lengths.old }
 {
+    let functions = x.functions();
     let mut done = 0;
-    for (i, &id) in x.functions().iter().enumerate() {
+    for (i, &id) in functions.iter().enumerate() {
         let id = u64::from(id);
         let walked = numbering_walk::visit_function(x, sheet, claims, stack, numbers, done, id)?;
         cells::put(lengths, i as u64, walked.done.saturating_sub(done));

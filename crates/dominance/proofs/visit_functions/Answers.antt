@@ -7,7 +7,7 @@ use lib.ListN.{length, get_or}
 use Rattle.std.proofs.lemmas.Result.{err_from_is_err_and}
 use Rattle.tables.specs.Tables.{functions}
 use Rattle.dominance.specs.Walk.{told, function_judged}
-use Rattle.dominance.proofs.Walks.{all_more, all_stop, all_end, whole_is}
+use Rattle.dominance.proofs.Walks.{all_stop, all_end, whole_is}
 use Rattle.dominance.proofs.visit_functions.Goals as goal
 
 pub returns-in_err-visit_function : goal.returns-in_err-visit_function

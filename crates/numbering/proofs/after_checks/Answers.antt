@@ -10,7 +10,7 @@ pub returns-then-is_err : goal.returns-then-is_err
 returns-then-is_err c = λ passed filled hn hl.
     let x = c.args.x.now in
     told_cleared (sizes x) _ _ c.args.numbers.now c.args.lengths.now c.visit_all-numbered.result
-    (c.visit_all-numbered.ensures passed filled hn hl) (sym c.is_err.ensures ∙ c.if-is_err.true) (walk_is x passed c.args.sheet.now)
+    (c.visit_all-numbered.ensures passed filled hn hl) (sym c.is_err.ensures.value ∙ c.if-is_err.true) (walk_is x passed c.args.sheet.now)
     (c.clear.ensures ∙ ap (λ (k : ℕ). replicate k 0) c.visit_all-numbered.auto.numbers)
     (c.clear-then-is_err.ensures ∙ ap (λ (k : ℕ). replicate k 0) c.visit_all-numbered.auto.lengths)
 
@@ -18,4 +18,4 @@ pub returns-else-is_err : goal.returns-else-is_err
 returns-else-is_err c = λ passed filled hn hl.
     let x = c.args.x.now in
     told_kept (sizes x) _ _ c.args.numbers.now c.args.lengths.now c.visit_all-numbered.result
-    (c.visit_all-numbered.ensures passed filled hn hl) (sym c.is_err.ensures ∙ c.if-is_err.false) (walk_is x passed c.args.sheet.now)
+    (c.visit_all-numbered.ensures passed filled hn hl) (sym c.is_err.ensures.value ∙ c.if-is_err.false) (walk_is x passed c.args.sheet.now)

@@ -19,30 +19,33 @@ pub returns-in_err-walked : goal.returns-in_err-walked
 returns-in_err-walked g c = λ tells room.
     let x = c.args.x.now in
     let lp = c.loop-i in
-    let at = lp.invariant tells room in
-    let h : lp.i < length (functions x) = omega (arith, c.loop-i-test.true, ap length c.functions-id-items.ensures) in
-    let id = c.from-id.ensures ∙ ap (λ (xs : List ℕ). get_or xs lp.i 0) c.functions-id-items.ensures in
+    let at = lp.invariant.1 tells room in
+    let h : lp.i < length (functions x) = omega (arith, c.loop-i-test.true, ap length c.loop-i.invariant.0) in
+    let id = c.from-id.ensures ∙ ap (λ (xs : List ℕ). get_or xs lp.i 0) c.loop-i.invariant.0 in
     let p = err_from_is_err_and c.from_residual.result c.from_residual.ensures.1 in
     rw (p.1, p.2)
     (filling_stop at.1 h (ap (function_numbered c.args.sheet.now x) (sym id) ∙ stops_is (c.visit_function.ensures tells at.0) c.in_err-walked.was)
     ∙ entries_are c.args.sheet.now x)
 
 pub loop-i-preserved : goal.loop-i-preserved
-loop-i-preserved g c = λ tells room.
-    let x = c.args.x.now in
-    let lp = c.loop-i in
-    let at = lp.invariant tells room in
-    let h : lp.i < length (functions x) = omega (arith, c.loop-i-test.true, ap length c.functions-id-items.ensures) in
-    let id = c.from-id.ensures ∙ ap (λ (xs : List ℕ). get_or xs lp.i 0) c.functions-id-items.ensures in
-    let went = c.visit_function.ensures tells at.0 in
-    let here = ap (function_numbered c.args.sheet.now x) (sym id) ∙ fine_is went c.in_ok-walked.was in (
-      holds_clear (stands_is went c.in_ok-walked.was),
-      filling_more at.1 room.all room.each h here (function_size x c.args.sheet.now _ went.list here) (wrote_is went c.in_ok-walked.was) c.saturating_sub.ensures c.put.ensures,
-    )
+loop-i-preserved g c = (
+  c.loop-i.invariant.0,
+  λ tells room.
+      let x = c.args.x.now in
+      let lp = c.loop-i in
+      let at = lp.invariant.1 tells room in
+      let h : lp.i < length (functions x) = omega (arith, c.loop-i-test.true, ap length lp.invariant.0) in
+      let id = c.from-id.ensures ∙ ap (λ (xs : List ℕ). get_or xs lp.i 0) lp.invariant.0 in
+      let went = c.visit_function.ensures tells at.0 in
+      let here = ap (function_numbered c.args.sheet.now x) (sym id) ∙ fine_is went c.in_ok-walked.was in (
+        holds_clear (stands_is went c.in_ok-walked.was),
+        filling_more at.1 room.all room.each h here (function_size x c.args.sheet.now _ went.list here) (wrote_is went c.in_ok-walked.was) c.saturating_sub.ensures c.put.ensures,
+      ),
+)
 
 pub returns : goal.returns
 returns g c = λ tells room.
     let x = c.args.x.now in
-    let h : length (functions x) ≤ c.loop-i.i = omega (arith, c.loop-i-test.false, ap length c.functions-id-items.ensures) in
-    filling_end (c.loop-i.invariant tells room).1 room.all room.each h
+    let h : length (functions x) ≤ c.loop-i.i = omega (arith, c.loop-i-test.false, ap length c.loop-i.invariant.0) in
+    filling_end (c.loop-i.invariant.1 tells room).1 room.all room.each h
     ∙ ap (λ (z : Listing ℕ). filled_by z (sizes x) c.args.numbers.now c.args.lengths.now) (entries_are c.args.sheet.now x)
