@@ -4,3 +4,4 @@ pub mod Products
 pub mod Powers
 pub mod Laws
 pub mod Examples
+pub mod Bits

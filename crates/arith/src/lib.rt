@@ -75,10 +75,13 @@ pub fn power_of_two(x: u64) -> bool
 }
 
 // Bit k of a mask is set, of as many bits as its width says.
-#[tactic(auto, unfolding(crate::specs::Bits::has_bit))]
+#[tactic(auto, using(crate::proofs::Bits::past_bits), unfolding(crate::specs::Bits::has_bit))]
 pub fn has_bit(width: u64, mask: u64, k: u64) -> bool
-    requires { width ≤ 64 }
     ensures { result ≡ has_bit width mask k }
 {
+    // No mask has so many bits.
+    if 64 <= k {
+        return false;
+    }
     k < width && (mask >> k) % 2 == 1
 }
