@@ -74,20 +74,6 @@ pub fn put<T: Copy>(s: &mut [T], i: u64, x: T)
     }
 }
 
-// The lesser of two numbers.
-pub fn least(a: u64, b: u64) -> u64
-    ensures { result ≡ min a b }
-{
-    if a < b { a } else { b }
-}
-
-// What is left of a once b is taken, 0 where b is more.
-pub fn rest(a: u64, b: u64) -> u64
-    ensures { result ≡ a - b }
-{
-    if a < b { 0 } else { a - b }
-}
-
 // The low 32 bits, for a cell that holds no more.
 pub fn narrow(x: u64) -> u32
     ensures { result ≡ x % 2 ^ 32 }

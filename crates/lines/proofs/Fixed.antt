@@ -15,7 +15,7 @@ use Rattle.lines.specs.Line.{dim_of, type_line, value_row_of, owner, value_line,
 use Rattle.lines.specs.Into.{number_in, good_of, count_of}
 use Rattle.lines.specs.Answer.{bad_field, eight, type_of, dim_width, value_of, function_of}
 use Rattle.lines.specs.declared.BadField.{BadField}
-use Rattle.lines.specs.declared.Claim.{Claim}
+use Rattle.tables.specs.declared.Claim.{Claim}
 use Rattle.lines.specs.declared.TypeLine.{TypeLine}
 use Rattle.lines.specs.declared.ValueLine.{ValueLine}
 use Rattle.lines.specs.declared.Width.{Width}

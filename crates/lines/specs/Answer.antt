@@ -13,7 +13,7 @@ use Rattle.lines.specs.declared.Width.TheVariants.{Signed}
 use Rattle.lines.specs.declared.BadField.{BadField}
 use Rattle.lines.specs.declared.HeaderLine.{HeaderLine}
 use Rattle.lines.specs.declared.TypeLine.{TypeLine}
-use Rattle.lines.specs.declared.Claim.{Claim}
+use Rattle.tables.specs.declared.Claim.{Claim}
 use Rattle.lines.specs.declared.ValueLine.{ValueLine}
 use Rattle.lines.specs.declared.OperationLine.{OperationLine}
 use Rattle.lines.specs.declared.AttributeLine.{AttributeLine}

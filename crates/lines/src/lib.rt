@@ -13,6 +13,7 @@ ghost use Rattle.lines.specs.Place.{field_start};
 ghost use Rattle.lines.specs.Answer.{bad_field, header_of, type_of, dim_width, value_of, function_of, operation_into, form_in, slot_of, held_into, whole_into, numbers_into, attribute_into, block_into, region_into};
 
 use fields::Taken;
+use tables::Claim;
 
 // The greatest id and the greatest number, and half of the numbers of 32 and of 64 bits.
 const MAX_ID: u64 = (1 << 32) - 1;
@@ -52,13 +53,6 @@ pub struct TypeLine {
     pub sparse: u64,
     pub rank: u64,
     pub dims: [u64; 8],
-}
-
-// The operation and the result that a value claims, if it claims one.
-#[derive(Clone, Copy)]
-pub struct Claim {
-    pub operation: u64,
-    pub index: u64,
 }
 
 #[derive(Clone, Copy)]

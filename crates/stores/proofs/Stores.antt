@@ -18,7 +18,7 @@ use Rattle.lines.specs.Line.{TypeRow, ValueRow, value_row_of, owner, type_line, 
 use Rattle.lines.specs.Into.{left}
 use Rattle.lines.specs.Answer.{bad_field, answered, type_line_of, type_of, claim_of, value_line_of, value_of, function_of}
 use Rattle.lines.specs.declared.BadField.{BadField}
-use Rattle.lines.specs.declared.Claim.{Claim}
+use Rattle.tables.specs.declared.Claim.{Claim}
 use Rattle.lines.specs.declared.TypeLine.{TypeLine}
 use Rattle.lines.specs.declared.ValueLine.{ValueLine}
 pub use Rattle.lines.proofs.Kept.{impossible}

@@ -3,7 +3,7 @@ use Prim.Native.Nat.{◌*◌}
 use mathlib.Core.Path.{sym, ◌∙◌, ap}
 use lib.Seq.{sets}
 use Rattle.std.specs.Prelude.{Option}
-use Rattle.lines.specs.declared.Claim.{Claim}
+use Rattle.tables.specs.declared.Claim.{Claim}
 use Rattle.stores.proofs.Stores.{not_stored, value_bad, value_full, value_taken, claimed}
 use Rattle.stores.proofs.store_value.Goals as goal
 use Rattle.stores.proofs.store_value.Goals.{in-Some, in-None}
