@@ -1,7 +1,6 @@
 -- Checks in turn, with the list that is handed on. Assumes nothing.
 use Prim.Native.Nat.{ℕ}
 use mathlib.Core.Path.{◌≡◌}
-use native.Mathlib.Omega.{arith}
 use mathlib.Core.List.{List}
 use Rattle.tables.specs.Answer.{and_then, Answer}
 use Rattle.std.specs.Prelude.{Result, Ok, Err}
