@@ -8,7 +8,9 @@ pub record Single (x : Tables) : Type 0 where
   -- a value stands at most once among all arguments
   pub arguments : (v : ℕ) → v < x.counts.values → count v (all_arguments x) ≤ 1
   -- a declared result is no argument
-  pub results : (v i k : ℕ) → v < x.counts.values → claim x v ≡ Some (record { operation = i; index = k }) → declared x i k ≡ true → count v (all_arguments x) ≡ 0
+  pub results : (v i k : ℕ) → v < x.counts.values → claim x v ≡ Some (record { operation = i; index = k }) → declared x i k ≡ true
+      → count v (all_arguments x) ≡ 0
   -- no two values claim the same declared result
   pub claims : (v w i k : ℕ) → v < x.counts.values → w < x.counts.values
-      → claim x v ≡ Some (record { operation = i; index = k }) → claim x w ≡ Some (record { operation = i; index = k }) → declared x i k ≡ true → v ≡ w
+      → claim x v ≡ Some (record { operation = i; index = k }) → claim x w ≡ Some (record { operation = i; index = k })
+      → declared x i k ≡ true → v ≡ w

@@ -37,7 +37,8 @@ returns-in_err-used c =
     c.in_ok-first_bad.was
     (first_as c.values.ensures (good_value x) (c.first_bad-2.ensures (good_value x) (λ i r l e. search rules)))
     c.in_ok-first_bad-2.was
-    (scan_as c.operations.ensures (good_operation x) (listed_by_operation x) _ (c.scan.ensures (good_operation x) (listed_by_operation x) (λ i r l e. search rules) (λ i r l e. search rules)))
+    (scan_as c.operations.ensures (good_operation x) (listed_by_operation x) _ (c.scan.ensures (good_operation x) (listed_by_operation x)
+    (λ i r l e. search rules) (λ i r l e. search rules)))
     c.in_err-used.was)
 
 pub returns-in_err-used-2 : goal.returns-in_err-used-2
@@ -49,9 +50,11 @@ returns-in_err-used-2 c =
     c.in_ok-first_bad.was
     (first_as c.values.ensures (good_value x) (c.first_bad-2.ensures (good_value x) (λ i r l e. search rules)))
     c.in_ok-first_bad-2.was
-    (scan_as c.operations.ensures (good_operation x) (listed_by_operation x) _ (c.scan.ensures (good_operation x) (listed_by_operation x) (λ i r l e. search rules) (λ i r l e. search rules)))
+    (scan_as c.operations.ensures (good_operation x) (listed_by_operation x) _ (c.scan.ensures (good_operation x) (listed_by_operation x)
+    (λ i r l e. search rules) (λ i r l e. search rules)))
     c.in_ok-used.was
-    (scan_as c.attributes.ensures (good_attribute x) (listed_by_attribute x) _ (c.scan-2.ensures (good_attribute x) (listed_by_attribute x) (λ i r l e. search rules) (λ i r l e. search rules)))
+    (scan_as c.attributes.ensures (good_attribute x) (listed_by_attribute x) _ (c.scan-2.ensures (good_attribute x) (listed_by_attribute x)
+    (λ i r l e. search rules) (λ i r l e. search rules)))
     c.in_err-used-2.was)
 
 pub returns-in_err-used-3 : goal.returns-in_err-used-3
@@ -63,11 +66,14 @@ returns-in_err-used-3 c =
     c.in_ok-first_bad.was
     (first_as c.values.ensures (good_value x) (c.first_bad-2.ensures (good_value x) (λ i r l e. search rules)))
     c.in_ok-first_bad-2.was
-    (scan_as c.operations.ensures (good_operation x) (listed_by_operation x) _ (c.scan.ensures (good_operation x) (listed_by_operation x) (λ i r l e. search rules) (λ i r l e. search rules)))
+    (scan_as c.operations.ensures (good_operation x) (listed_by_operation x) _ (c.scan.ensures (good_operation x) (listed_by_operation x)
+    (λ i r l e. search rules) (λ i r l e. search rules)))
     c.in_ok-used.was
-    (scan_as c.attributes.ensures (good_attribute x) (listed_by_attribute x) _ (c.scan-2.ensures (good_attribute x) (listed_by_attribute x) (λ i r l e. search rules) (λ i r l e. search rules)))
+    (scan_as c.attributes.ensures (good_attribute x) (listed_by_attribute x) _ (c.scan-2.ensures (good_attribute x) (listed_by_attribute x)
+    (λ i r l e. search rules) (λ i r l e. search rules)))
     c.in_ok-used-2.was
-    (scan_as c.blocks-2.ensures (good_block x) (listed_by_block x) _ (c.scan-3.ensures (good_block x) (listed_by_block x) (λ i r l e. search rules) (λ i r l e. search rules)))
+    (scan_as c.blocks-2.ensures (good_block x) (listed_by_block x) _ (c.scan-3.ensures (good_block x) (listed_by_block x)
+    (λ i r l e. search rules) (λ i r l e. search rules)))
     c.in_err-used-3.was)
 
 pub returns-in_err-scan : goal.returns-in_err-scan
@@ -79,13 +85,17 @@ returns-in_err-scan c =
     c.in_ok-first_bad.was
     (first_as c.values.ensures (good_value x) (c.first_bad-2.ensures (good_value x) (λ i r l e. search rules)))
     c.in_ok-first_bad-2.was
-    (scan_as c.operations.ensures (good_operation x) (listed_by_operation x) _ (c.scan.ensures (good_operation x) (listed_by_operation x) (λ i r l e. search rules) (λ i r l e. search rules)))
+    (scan_as c.operations.ensures (good_operation x) (listed_by_operation x) _ (c.scan.ensures (good_operation x) (listed_by_operation x)
+    (λ i r l e. search rules) (λ i r l e. search rules)))
     c.in_ok-used.was
-    (scan_as c.attributes.ensures (good_attribute x) (listed_by_attribute x) _ (c.scan-2.ensures (good_attribute x) (listed_by_attribute x) (λ i r l e. search rules) (λ i r l e. search rules)))
+    (scan_as c.attributes.ensures (good_attribute x) (listed_by_attribute x) _ (c.scan-2.ensures (good_attribute x) (listed_by_attribute x)
+    (λ i r l e. search rules) (λ i r l e. search rules)))
     c.in_ok-used-2.was
-    (scan_as c.blocks-2.ensures (good_block x) (listed_by_block x) _ (c.scan-3.ensures (good_block x) (listed_by_block x) (λ i r l e. search rules) (λ i r l e. search rules)))
+    (scan_as c.blocks-2.ensures (good_block x) (listed_by_block x) _ (c.scan-3.ensures (good_block x) (listed_by_block x)
+    (λ i r l e. search rules) (λ i r l e. search rules)))
     c.in_ok-used-3.was
-    (scan_as c.regions.ensures (good_region x) (listed_by_region x) _ (c.scan-4.ensures (good_region x) (listed_by_region x) (λ i r l e. search rules) (λ i r l e. search rules)))
+    (scan_as c.regions.ensures (good_region x) (listed_by_region x) _ (c.scan-4.ensures (good_region x) (listed_by_region x)
+    (λ i r l e. search rules) (λ i r l e. search rules)))
     c.in_err-scan.was)
 
 pub returns : goal.returns
@@ -96,12 +106,17 @@ returns c =
     c.in_ok-first_bad.was
     (first_as c.values.ensures (good_value x) (c.first_bad-2.ensures (good_value x) (λ i r l e. search rules)))
     c.in_ok-first_bad-2.was
-    (scan_as c.operations.ensures (good_operation x) (listed_by_operation x) _ (c.scan.ensures (good_operation x) (listed_by_operation x) (λ i r l e. search rules) (λ i r l e. search rules)))
+    (scan_as c.operations.ensures (good_operation x) (listed_by_operation x) _ (c.scan.ensures (good_operation x) (listed_by_operation x)
+    (λ i r l e. search rules) (λ i r l e. search rules)))
     c.in_ok-used.was
-    (scan_as c.attributes.ensures (good_attribute x) (listed_by_attribute x) _ (c.scan-2.ensures (good_attribute x) (listed_by_attribute x) (λ i r l e. search rules) (λ i r l e. search rules)))
+    (scan_as c.attributes.ensures (good_attribute x) (listed_by_attribute x) _ (c.scan-2.ensures (good_attribute x) (listed_by_attribute x)
+    (λ i r l e. search rules) (λ i r l e. search rules)))
     c.in_ok-used-2.was
-    (scan_as c.blocks-2.ensures (good_block x) (listed_by_block x) _ (c.scan-3.ensures (good_block x) (listed_by_block x) (λ i r l e. search rules) (λ i r l e. search rules)))
+    (scan_as c.blocks-2.ensures (good_block x) (listed_by_block x) _ (c.scan-3.ensures (good_block x) (listed_by_block x)
+    (λ i r l e. search rules) (λ i r l e. search rules)))
     c.in_ok-used-3.was
-    (scan_as c.regions.ensures (good_region x) (listed_by_region x) _ (c.scan-4.ensures (good_region x) (listed_by_region x) (λ i r l e. search rules) (λ i r l e. search rules)))
+    (scan_as c.regions.ensures (good_region x) (listed_by_region x) _ (c.scan-4.ensures (good_region x) (listed_by_region x)
+    (λ i r l e. search rules) (λ i r l e. search rules)))
     c.in_ok-scan.was
-    (first_as c.functions.ensures (λ p. ltb (get_or (functions x) p 0) x.counts.operations) (c.first_bad-3.ensures (λ p. ltb (get_or (functions x) p 0) x.counts.operations) (λ i r l e. search rules)))
+    (first_as c.functions.ensures (λ p. ltb (get_or (functions x) p 0) x.counts.operations) (c.first_bad-3.ensures (λ p. ltb (get_or (functions x) p 0) x.counts.operations)
+    (λ i r l e. search rules)))
