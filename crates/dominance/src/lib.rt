@@ -51,7 +51,7 @@ fn add_results<const N: usize>(
     let mut s = scope;
     for k in 0..x.result_types(id).len() as u64 {
         if let Some(value) = claims.value_at(id, k) {
-            s = s.add(stack, value);
+            s = stack.add(s, value);
         }
     }
     s
@@ -126,7 +126,7 @@ fn visit_block<const N: usize>(
     ensures level { Level result scope.depth }
     ensures went { Tells x.now claims.now.bases.now claims.now.claims.now → (live : List ℕ) → Holds x.now.counts.values stack.old scope.next live → Went result x.now.counts.values stack.new live (block_judged x.now scope.depth live id) }
 {
-    let mut inside = scope.add_all(stack, x.arguments(id));
+    let mut inside = stack.add_all(scope, x.arguments(id));
     for &operation in x.operations(id) {
         inside = visit_operation(x, claims, stack, inside, operation)?;
     }

@@ -97,7 +97,7 @@ fn add_results<const N: usize>(
                 result: k,
             });
         };
-        s = s.add(stack, value);
+        s = stack.add(s, value);
     }
     Ok(Walked {
         scope: s,
@@ -189,7 +189,7 @@ fn visit_block<const N: usize>(
     ensures went { Tells x.now claims.now.bases.now claims.now.claims.now → (live : List ℕ) → Holds x.now.counts.values stack.old from.scope.next live → Went result x.now.counts.values stack.new live numbers.new (filled numbers.old from.done) (block_numbered sheet.now x.now from.scope.depth live id) }
 {
     let mut inside = Walked {
-        scope: from.scope.add_all(stack, x.arguments(id)),
+        scope: stack.add_all(from.scope, x.arguments(id)),
         done: from.done,
     };
     for &operation in x.operations(id) {

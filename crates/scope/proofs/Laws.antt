@@ -153,3 +153,14 @@ holds_clear {nv} {stack = stack} h = holds_none nv stack h.count h.shown.stack.d
 pub holds_back : {nv N : ℕ} {stack stack₀ : Live N} {n n₀ : ℕ} {live live₀ : List ℕ}
     → Holds nv stack n live → Begins live₀ live → Holds nv stack₀ n₀ live₀ → Holds nv stack n₀ live₀
 holds_back h p h₀ = record { count = h.count; shown = rolled h.shown p h₀.shown }
+
+-- what the stack's own cells show after a step, the stack shows
+pub holds_by : {nv N : ℕ} {stack stack' : Live N} {n n' : ℕ} {live : List ℕ} (seen : ℕ → List ℕ) → stack'.values ≡ stack.values → Holds nv stack n live
+    → (Shows stack.values stack.dense stack.sparse n live → Shows stack.values stack'.dense stack'.sparse n' (seen stack.values))
+    → Holds nv stack' n' (seen nv)
+holds_by {stack = stack} {stack' = stack'} {n = n} {n' = n'} {live = live} seen e h step = record {
+  count = e ∙ h.count;
+  shown =
+      subst (λ (m : ℕ). Shows m stack'.dense stack'.sparse n' (seen m)) h.count
+      (step (subst (λ (m : ℕ). Shows m stack.dense stack.sparse n live) (sym h.count) h.shown));
+}

@@ -21,8 +21,7 @@ use Rattle.nesting.specs.Fits.{Fits}
 use Rattle.nesting.proofs.Lists.{in_split, in_single}
 use Rattle.nesting.proofs.Counts.{count_append, count_in, in_nth, position_none, position_is}
 use Rattle.nesting.proofs.Theorems.{fits_few}
-use Rattle.scope.specs.Stack.{see, Shows, Holds}
-use Rattle.scope.specs.declared.Live.{Live}
+use Rattle.scope.specs.Stack.{see, Shows}
 use Rattle.scope.proofs.Laws.{mem_count, shows_count}
 
 -- ---- lists by their entries
@@ -156,18 +155,3 @@ module _ {nv : ℕ} {d s : List ℕ} {n : ℕ} {live : List ℕ} (g : Shows nv d
           };
           shows = rw (lt-ltb v nv h, m, add-one n, take-suc-set d n v (omega (arith, g.stack.dense_room)), g.shows);
         }
-
--- ---- the stack as one value
-
-module _ {nv N : ℕ} {stack : Live N} {n : ℕ} {live : List ℕ} (h : Holds nv stack n live) where
-  pub below_count : {k : ℕ} → k < stack.values → k < nv
-  below_count l = omega (arith, h.count)
-
-  pub holds_out : (v : ℕ) → stack.values ≤ v → Holds nv stack n (see nv live v)
-  holds_out v l = record { count = h.count; shown = see_out h.shown v (omega (arith, h.count)) }
-
-  pub holds_full : (v : ℕ) → v < stack.values → stack.values ≤ n → Holds nv stack n (see nv live v)
-  holds_full v l m = record { count = h.count; shown = see_full h.shown v (below_count l) (omega (arith, h.count)) }
-
-  pub holds_again : (v : ℕ) → v < stack.values → mem v live ≡ true → Holds nv stack n (see nv live v)
-  holds_again v l m = record { count = h.count; shown = see_again h.shown v (below_count l) m }
