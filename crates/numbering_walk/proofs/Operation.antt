@@ -6,7 +6,6 @@ use mathlib.Core.Path.{◌≡◌, refl, sym, ap, ◌∙◌}
 use mathlib.Core.Option.{Option, some, none}
 use mathlib.Core.List.{List, [], ◌∷◌, ◌++◌}
 use lib.ListN.{length, get_or, drop}
-use borrow.Author.Tests.{eq-eqb, ne_eqb}
 use Rattle.cells.specs.Lists.{from, below, flat}
 use Rattle.cells.proofs.Parts.{left_step, left_end}
 use Rattle.tables.specs.Place.{position_from}
@@ -15,12 +14,12 @@ use Rattle.tables.specs.Value.{value_of}
 use Rattle.std.specs.Prelude as std
 use Rattle.std.specs.Prelude.{Ok, Err, Some, None}
 use Rattle.tables.specs.declared.Refusal.{Refusal}
-use Rattle.tables.specs.declared.Refusal.TheVariants.{NoNumber, ResultCount, NoValue}
+use Rattle.tables.specs.declared.Refusal.TheVariants.{NoNumber, NoValue}
 use Rattle.values.specs.Claims.{number_of, value_in}
 use Rattle.walk.specs.Written.{Filled, filled, push, push_all}
 use Rattle.walk.proofs.Filling.{push_all_append}
 use Rattle.nesting.specs.Live.{to_list, value_at}
-use Rattle.nesting.specs.Numbering.{Listing, fine, refused, join, collect, there, counted, values_there}
+use Rattle.nesting.specs.Numbering.{Listing, fine, refused, join, collect, there, values_there}
 use Rattle.nesting.specs.Direct.{look_up}
 use Rattle.scope.specs.Stack.{see, see_all, Holds}
 use Rattle.scope.specs.declared.Live.{Live}
@@ -61,18 +60,6 @@ module _ {live : List ℕ} {i : ℕ} {vs : List ℕ} {p : Filled} {held : List �
     stands = g;
     wrote = inv.wrote;
   }
-
--- ---- the count
-
-module _ (x : std.Option ℕ) (i n : ℕ) where
-  pub count_free : x ≡ None → fine [] ≡ counted x i n
-  count_free e = rw e
-
-  pub count_same : {m c : ℕ} → x ≡ Some m → c ≡ n → m ≡ c → fine [] ≡ counted x i n
-  count_same {m} {c} e ec h = rw (e, eq-eqb m n (h ∙ ec))
-
-  pub count_differs : {m c : ℕ} → x ≡ Some m → c ≡ n → (m ≡ c → ⊥) → refused (ResultCount i c) ≡ counted x i n
-  count_differs {m} {c} e ec h = rw (e, ← ec, ne_eqb m c h)
 
 -- ---- results
 

@@ -6,7 +6,6 @@ use mathlib.Core.Path.{◌≡◌, refl, sym, ap, ◌∙◌, subst}
 use mathlib.Core.List.{List, [], ◌∷◌, ◌++◌, append-nil}
 use lib.ListN.{length, get_or, drop}
 use Rattle.cells.proofs.Parts.{left_step, left_end}
-use Rattle.tables.specs.Sizes.{max_depth}
 use Rattle.tables.specs.Tables.{Tables, regions, blocks, operations, arguments}
 use Rattle.std.specs.Prelude.{Ok, Err}
 use Rattle.tables.specs.declared.Refusal.{Refusal}
@@ -16,13 +15,13 @@ use Rattle.nesting.specs.Shape.{visit}
 use Rattle.nesting.specs.Live.{valued, result_values}
 use Rattle.nesting.specs.Numbering.{Listing, fine, refused, join}
 use Rattle.nesting.specs.Direct.{numbers_among}
-use Rattle.nesting.specs.Ask.{listings, all, of_first, fold_operation, fold_operations, fold_block, fold_region}
+use Rattle.nesting.specs.Ask.{listings, all, fold_operation, fold_operations, fold_block, fold_region}
 use Rattle.nesting.proofs.Answers.{listings_lawful}
 use Rattle.scope.specs.Stack.{see_all, Holds}
 use Rattle.scope.specs.declared.Live.{Live}
 use Rattle.scope.specs.declared.Scope.{Scope}
 use Rattle.scope.proofs.Laws.{Begins, begins_same, begins_on, begins_all, holds_back}
-use Rattle.numbering_walk.specs.Walk.{Tells, Visited, Level, Stands, Reached, Went, told, asked, after, region_numbered, block_numbered, operation_numbered, regions_numbered, function_numbered}
+use Rattle.numbering_walk.specs.Walk.{Tells, Visited, Level, Stands, Reached, Went, told, asked, after, region_numbered, block_numbered, operation_numbered, regions_numbered}
 use Rattle.numbering_walk.specs.declared.Walked.{Walked}
 
 -- ---- lists that are joined
@@ -205,28 +204,8 @@ module _ (sheet : List ℕ) where
       unfolding fold_operation valued asked numbers_among
       operation_goes e ed ek v' = went_after v.list (wrote_is v e) (fine_is v e) (rw (ed, ek) at v')
 
-  -- the entry walk of a function: no region, no block, or the first block of the first region
-  module _ (x : Tables) (f : ℕ) {ks : List ℕ} (ek : ks ≡ regions x f) where
-    pub no_region : length ks ≡ 0 → fine [] ≡ function_numbered sheet x f
-    no_region h = let q : regions x f ≡ [] = sym ek ∙ left_end ks 0 0 (omega arith) in rw q
-
-    module _ (h : length ks ≡ 0 → ⊥) {k : ℕ} (ei : k ≡ get_or ks 0 0) {js : List ℕ} (ej : js ≡ blocks x k) where
-      first_is : function_numbered sheet x f ≡ of_first listings (block_numbered sheet x (max_depth - 1) []) (blocks x k)
-      first_is = let q : regions x f ≡ k ∷ drop 1 ks = sym ek ∙ left_step ks 0 0 (omega arith) ∙ ap (λ (z : ℕ). z ∷ drop 1 ks) (sym ei) in rw q
-
-      pub no_block : length js ≡ 0 → fine [] ≡ function_numbered sheet x f
-      no_block g = let q : blocks x k ≡ [] = sym ej ∙ left_end js 0 0 (omega arith) in sym (first_is ∙ rw q)
-
-      pub block_first : (length js ≡ 0 → ⊥) → {j : ℕ} → j ≡ get_or js 0 0 → block_numbered sheet x (max_depth - 1) [] j ≡ function_numbered sheet x f
-      block_first g {j} e =
-          let q : blocks x k ≡ j ∷ drop 1 js = sym ej ∙ left_step js 0 0 (omega arith) ∙ ap (λ (z : ℕ). z ∷ drop 1 js) (sym e) in
-          sym (first_is ∙ rw q)
-
 -- ---- rolled back
 
 pub back_to : {u scope : Scope} {nv n N : ℕ} {stack stack₀ : Live N} {live live₀ : List ℕ} → u ≡ scope → Holds nv stack n live → Begins live₀ live
     → Holds nv stack₀ scope.next live₀ → Holds nv stack u.next live₀
 back_to {nv = nv} {stack = stack} {live₀ = live₀} e h p g = subst (λ (z : Scope). Holds nv stack z.next live₀) (sym e) (holds_back h p g)
-
-pub went_is : {w : Visited} {nv N : ℕ} {stack : Live N} {live held : List ℕ} {p : Filled} {a b : Listing ℕ} → a ≡ b → Went w nv stack live held p a → Went w nv stack live held p b
-went_is {w} {nv} {stack = stack} {live} {held} {p} e v = subst (Went w nv stack live held p) e v
