@@ -1,36 +1,42 @@
 -- The ways through the check over texts: the sheet is refused, the module is refused, or both are read and asked.
-use Prim.Native.Nat.{ℕ, ◌+◌, ◌≤◌}
-use mathlib.Core.Path.{◌≡◌, sym, ◌∙◌, ap}
+use Prim.Native.Nat.{ℕ, ◌≤◌}
+use mathlib.Core.Path.{◌≡◌, refl, sym, ◌∙◌, ap}
+use native.Mathlib.Omega.{arith}
 use mathlib.Core.List.{List}
-use borrow.Author.Tests.{ne_eqb}
 use Rattle.tables.specs.Tables.{Tables}
 use Rattle.tables.specs.Answer.{numbers_of, Answer}
 use Rattle.std.specs.Prelude.{Ok, Err}
 use Rattle.tables.specs.declared.Refusal.{Refusal}
-use Rattle.tables.specs.declared.Refusal.TheVariants.{NotInForm}
-use Rattle.tables.specs.declared.Numbers.{Numbers}
+use Rattle.tables.specs.declared.Refusal.TheVariants.{OutOfRange, ListedTwice, TooDeep, DefinedTwice, NotVisible, ResultCount, NoValue, NoNumber, VersionLow, ArchitectureNot, RuleBroken, ProductLeaves, TooShort, NotReadable, NotInForm, NoTarget}
 use Rattle.lines.specs.Into.{Left, left}
 use Rattle.sheet.specs.Sheet.{read_sheet}
 use Rattle.house.specs.State.{State}
 use Rattle.module_text.specs.Whole.{house}
 use Rattle.numbering.specs.Alone.{Outcome, outcome}
 use Rattle.full_check.specs.Full.{full_check}
-use Rattle.text_check.specs.Texts.{in_sheet, texts, slices, target, checked, texts_check}
+use Rattle.text_check.specs.Texts.{in_sheet, sheet_said, texts, slices, target, checked, after_sheet, texts_check}
 use Rattle.text_check.proofs.Low.{sheet_low}
 
--- ---- a refusal of the sheet, whose numbers are n
+-- ---- a refusal of the sheet that is none of its text's form
 
-module _ (why : Refusal) {n : Numbers} (e : n ≡ numbers_of why) where
-  pub field_low : ((numbers_of why).code ≡ 15 → (numbers_of why).detail ≤ 3) → n.code ≡ 15 → n.detail ≤ 3
-  field_low h q = rw e (h (sym (ap (λ (m : Numbers). m.code) e) ∙ q))
-
-  pub form_told : n.code ≡ 15 → NotInForm n.id (n.detail + 100) ≡ in_sheet why
-  unfolding in_sheet
-  form_told q = rw (← e, q)
-
-  pub other_told : (n.code ≡ 15 → ⊥) → why ≡ in_sheet why
-  unfolding in_sheet
-  other_told h = rw (← e, ne_eqb n.code 15 h)
+pub other_told : (why : Refusal) → ((line field : ℕ) → why ≡ NotInForm line field → ⊥) → why ≡ in_sheet why
+unfolding in_sheet
+other_told (OutOfRange table entry) h = refl
+other_told (ListedTwice id list) h = refl
+other_told (TooDeep operation) h = refl
+other_told (DefinedTwice value) h = refl
+other_told (NotVisible operation operand) h = refl
+other_told (ResultCount operation count) h = refl
+other_told (NoValue operation result) h = refl
+other_told (NoNumber operation operand) h = refl
+other_told (VersionLow operation feature) h = refl
+other_told (ArchitectureNot operation feature) h = refl
+other_told (RuleBroken operation reason) h = refl
+other_told (ProductLeaves operation) h = refl
+other_told (TooShort needed) h = refl
+other_told (NotReadable operation place) h = refl
+other_told (NotInForm line field) h = absurd (h line field refl)
+other_told NoTarget h = refl
 
 -- ---- what was read
 
@@ -43,19 +49,47 @@ module _ (s : State) (sheet numbers lengths : List ℕ) where
   unfolding checked
   read_asked e = rw e
 
--- ---- both texts, where the sheet's reading answered `a` and left `after`
+-- ---- the sheet's text, where its reading answered `a` and left `after`
+
+module _ (text sheet : List ℕ) {a : Answer} {after : List ℕ} (e : left a after ≡ read_sheet text sheet) where
+  pub refused_low : {why : Refusal} → a ≡ Err why → (numbers_of why).code ≡ 15 → (numbers_of why).detail ≤ 3
+  refused_low {why} q = sheet_low text sheet why (sym (ap (λ (w : Left Answer). w.answer) e) ∙ q)
+
+  pub said_of : (b : Answer) → a ≡ b → sheet_said b ≡ sheet_said (read_sheet text sheet).answer
+  said_of b q = ap sheet_said (sym q ∙ ap (λ (w : Left Answer). w.answer) e)
+
+  pub left_of : after ≡ (read_sheet text sheet).entries
+  left_of = ap (λ (w : Left Answer). w.entries) e
+
+-- ---- both texts, where the sheet was told as `a`
 
 module _ (sheet_text text : List ℕ) (x : Tables) (sheet numbers lengths : List ℕ) {a : Answer} {after : List ℕ}
-    (e : left a after ≡ read_sheet sheet_text sheet) where
-  pub refused_low : {why : Refusal} → a ≡ Err why → (numbers_of why).code ≡ 15 → (numbers_of why).detail ≤ 3
-  refused_low {why} q = sheet_low sheet_text sheet why (sym (ap (λ (w : Left Answer). w.answer) e) ∙ q)
-
-  pub sheet_stops : {why told : Refusal} → a ≡ Err why → told ≡ in_sheet why
+    (e : a ≡ sheet_said (read_sheet sheet_text sheet).answer) (f : after ≡ (read_sheet sheet_text sheet).entries) where
+  pub sheet_stops : {told : Refusal} → a ≡ Err told
       → texts (outcome (Err told) numbers lengths) x after ≡ texts_check sheet_text text x sheet numbers lengths
   unfolding texts_check
-  sheet_stops q t = rw (sym e, q, t)
+  sheet_stops {told} q = rw f (by (read_sheet sheet_text sheet).answer (sym q ∙ e))
+    where
+      entries : List ℕ
+      entries = (read_sheet sheet_text sheet).entries
+
+      by : (b : Answer) → Err told ≡ sheet_said b → texts (outcome (Err told) numbers lengths) x entries ≡ after_sheet b entries (house text x) x numbers lengths
+      by (Err r) z = let k : told ≡ in_sheet r = cc in rw k
+      by (Ok _) z = absurd (let k : ◌≡◌ {A = ℕ} 0 1 = cc in omega arith)
 
   pub both_read : {s : State} {said : Outcome} → a ≡ Ok tt → s ≡ house text x → said ≡ checked s after numbers lengths
       → texts said (slices s.tables) after ≡ texts_check sheet_text text x sheet numbers lengths
   unfolding texts_check
-  both_read q m c = rw (sym e, q, sym m, c)
+  both_read {s} {said} q m c =
+      ap (λ (o : Outcome). texts o (slices s.tables) after) c
+      ∙ rw (f, m) (by (read_sheet sheet_text sheet).answer (sym q ∙ e))
+    where
+      entries : List ℕ
+      entries = (read_sheet sheet_text sheet).entries
+
+      y : State
+      y = house text x
+
+      by : (b : Answer) → Ok tt ≡ sheet_said b → texts (checked y entries numbers lengths) (slices y.tables) entries ≡ after_sheet b entries y x numbers lengths
+      by (Err r) z = absurd (let k : ◌≡◌ {A = ℕ} 0 1 = cc in omega arith)
+      by (Ok _) z = refl

@@ -1,57 +1,67 @@
 -- `after_checks`: the parts in turn, then 13 and the lent lists. Assumes nothing.
+use Rattle.std.proofs.Common.{rules, ◌≡◌}
 use Prim.Native.Nat.{ℕ}
 use native.Mathlib.Omega.{arith}
-use mathlib.Core.Path.{sym, ◌∙◌}
+use mathlib.Core.Path.{sym, ap, ◌∙◌}
+use mathlib.Core.List.{List}
 use lib.ListN.{length-replicate}
+use Rattle.std.specs.Prelude.{Err}
+use Rattle.tables.specs.Answer.{and_then}
 use Rattle.tables.specs.Sizes.{max_entries, max_functions}
-use Rattle.tables.specs.Tables.{lent}
+use Rattle.capabilities.specs.Ask.{capabilities}
+use Rattle.rules.specs.Operation.{rules as rules_of}
 use Rattle.nesting.specs.Numbering.{numbering}
 use Rattle.numbering.specs.Alone.{sizes, handed}
 use Rattle.numbering.proofs.Passed.{sizes_long, list_handed}
-use Rattle.full_check.proofs.Parts.{numbering_stops, numbering_goes, over_is, dominance_stops, numbers_stop, over_stops, all_pass}
+use Rattle.full_check.proofs.Parts.{numbering_stops, numbering_goes, dominance_stops, numbers_stop, over_stops, all_pass}
 use Rattle.full_check.proofs.after_checks.Goals as goal
 
-pub returns-in-Refused : goal.returns-in-Refused
-returns-in-Refused c =
+pub returns-in_err-after_checks : goal.returns-in_err-after_checks
+returns-in_err-after_checks c =
     λ e q claimed.
     let p = c.args in
-    let x = lent p.t.now p.v.now p.o.now p.a.now p.b.now p.r.now p.f.now p.l.now p.n in
-    let rest = handed (numbering p.sheet.now x) (sizes x) p.numbers.now p.lengths.now in
-    dominance_stops p.g p.sheet.now x rest p.numbers.now p.lengths.now
-    (sym (c.after_checks.ensures p.t.now p.v.now p.a.now e claimed) ∙ c.in-Refused.is)
+    let x = p.x.now in
+    let sheet = p.sheet.now in
+    let rest = handed (numbering sheet x) (sizes x) p.numbers.now p.lengths.now in
+    let r : c.from_residual.result ≡ Err c.in_err-after_checks.field-0.0 = search rules in
+    rw r (dominance_stops p.g sheet x rest p.numbers.now p.lengths.now (sym (c.after_checks.ensures e claimed) ∙ c.in_err-after_checks.was))
 
-pub returns-in-Refused-over_operations : goal.returns-in-Refused-over_operations
-returns-in-Refused-over_operations c =
+pub returns-in_err-count : goal.returns-in_err-count
+returns-in_err-count c =
     λ e q claimed.
     let p = c.args in
-    let x = lent p.t.now p.v.now p.o.now p.a.now p.b.now p.r.now p.f.now p.l.now p.n in
-    let rest = handed (numbering p.sheet.now x) (sizes x) p.numbers.now p.lengths.now in
-    let d = sym (c.after_checks.ensures p.t.now p.v.now p.a.now e claimed) ∙ c.in_default.is in
-    let filled = c.after_checks-2.ensures p.t.now p.v.now p.a.now e claimed (omega (arith, length-replicate {A = ℕ} max_entries 0)) (omega (arith, length-replicate {A = ℕ} max_functions 0)) in
-    let m = numbering_goes (sizes x) _ _ _ _ (numbering p.sheet.now x) filled c.in-Written.is in
-    over_stops p.g p.sheet.now x rest p.numbers.now p.lengths.now d m
-    (sym (c.over_operations.ensures ∙ over_is p.g p.sheet.now x p.order.now q) ∙ c.in-Refused-over_operations.is)
+    let x = p.x.now in
+    let sheet = p.sheet.now in
+    let rest = handed (numbering sheet x) (sizes x) p.numbers.now p.lengths.now in
+    let r : c.from_residual-in_err-count.result ≡ Err c.in_err-count.field-0.0 = search rules in
+    let d = sym (c.after_checks.ensures e claimed) ∙ c.in_ok-after_checks.was in
+    let filled = c.after_checks-2.ensures e claimed (omega (arith, length-replicate {A = ℕ} max_entries 0)) (omega (arith, length-replicate {A = ℕ} max_functions 0)) in
+    rw r (numbers_stop p.g sheet x rest p.numbers.now p.lengths.now d (numbering_stops (sizes x) _ _ _ _ (numbering sheet x) filled c.in_err-count.was))
 
-pub returns-in-Refused-after_checks : goal.returns-in-Refused-after_checks
-returns-in-Refused-after_checks c =
+pub returns-in_err-over_operations : goal.returns-in_err-over_operations
+returns-in_err-over_operations c =
     λ e q claimed.
     let p = c.args in
-    let x = lent p.t.now p.v.now p.o.now p.a.now p.b.now p.r.now p.f.now p.l.now p.n in
-    let rest = handed (numbering p.sheet.now x) (sizes x) p.numbers.now p.lengths.now in
-    let d = sym (c.after_checks.ensures p.t.now p.v.now p.a.now e claimed) ∙ c.in_default.is in
-    let filled = c.after_checks-2.ensures p.t.now p.v.now p.a.now e claimed (omega (arith, length-replicate {A = ℕ} max_entries 0)) (omega (arith, length-replicate {A = ℕ} max_functions 0)) in
-    numbers_stop p.g p.sheet.now x rest p.numbers.now p.lengths.now d
-    (numbering_stops (sizes x) _ _ _ _ (numbering p.sheet.now x) filled c.in-Refused-after_checks.is)
+    let x = p.x.now in
+    let sheet = p.sheet.now in
+    let rest = handed (numbering sheet x) (sizes x) p.numbers.now p.lengths.now in
+    let r : c.from_residual-in_err-over_operations.result ≡ Err c.in_err-over_operations.field-0.0 = search rules in
+    let d = sym (c.after_checks.ensures e claimed) ∙ c.in_ok-after_checks.was in
+    let filled = c.after_checks-2.ensures e claimed (omega (arith, length-replicate {A = ℕ} max_entries 0)) (omega (arith, length-replicate {A = ℕ} max_functions 0)) in
+    let m = numbering_goes (sizes x) _ _ _ _ (numbering sheet x) filled c.in_ok-count.was in
+    let o = ap (λ (is : List ℕ). and_then (capabilities p.g x is) (rules_of p.g.version sheet x is)) (sym q) ∙ sym c.over_operations.ensures ∙ c.in_err-over_operations.was in
+    rw r (over_stops p.g sheet x rest p.numbers.now p.lengths.now d m o)
 
-pub returns-in_default-over_operations : goal.returns-in_default-over_operations
-returns-in_default-over_operations c =
+pub returns : goal.returns
+returns c =
     λ e q claimed.
     let p = c.args in
-    let x = lent p.t.now p.v.now p.o.now p.a.now p.b.now p.r.now p.f.now p.l.now p.n in
-    let rest = handed (numbering p.sheet.now x) (sizes x) p.numbers.now p.lengths.now in
-    let d = sym (c.after_checks.ensures p.t.now p.v.now p.a.now e claimed) ∙ c.in_default.is in
-    let filled = c.after_checks-2.ensures p.t.now p.v.now p.a.now e claimed (omega (arith, length-replicate {A = ℕ} max_entries 0)) (omega (arith, length-replicate {A = ℕ} max_functions 0)) in
-    let m = numbering_goes (sizes x) _ _ _ _ (numbering p.sheet.now x) filled c.in-Written.is in
-    let o = sym (c.over_operations.ensures ∙ over_is p.g p.sheet.now x p.order.now q) ∙ c.in_default-over_operations.is in
-    list_handed (numbering p.sheet.now x) (sizes x) _ _ _ _ p.numbers.now p.lengths.now filled c.in-Written.is (sizes_long x e) c.hand_over.ensures
-    ∙ all_pass p.g p.sheet.now x rest p.numbers.now p.lengths.now d m o
+    let x = p.x.now in
+    let sheet = p.sheet.now in
+    let rest = handed (numbering sheet x) (sizes x) p.numbers.now p.lengths.now in
+    let d = sym (c.after_checks.ensures e claimed) ∙ c.in_ok-after_checks.was in
+    let filled = c.after_checks-2.ensures e claimed (omega (arith, length-replicate {A = ℕ} max_entries 0)) (omega (arith, length-replicate {A = ℕ} max_functions 0)) in
+    let m = numbering_goes (sizes x) _ _ _ _ (numbering sheet x) filled c.in_ok-count.was in
+    let o = ap (λ (is : List ℕ). and_then (capabilities p.g x is) (rules_of p.g.version sheet x is)) (sym q) ∙ sym c.over_operations.ensures ∙ c.in_ok-over_operations.was in
+    list_handed (numbering sheet x) (sizes x) _ _ _ _ p.numbers.now p.lengths.now filled c.in_ok-count.was (sizes_long x e) (rw c.counts.ensures at c.hand_over.ensures)
+    ∙ all_pass p.g sheet x rest p.numbers.now p.lengths.now d m o
