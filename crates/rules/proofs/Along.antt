@@ -1,16 +1,15 @@
 -- The operations in the order of their table: any order accepts where this one does. Assumes nothing.
 use Prim.Native.Nat.{ℕ, zero, suc, ◌+◌, ◌-◌, ◌≤◌, ◌<◌}
-use native.Mathlib.Numerals.{add-one}
 use native.Mathlib.Omega.{arith}
-use mathlib.Core.Path.{◌≡◌, refl, ap, subst}
-use mathlib.Core.Bool.{Bool, true, false}
+use mathlib.Core.Path.{◌≡◌, refl, ap, subst, ◌∙◌}
+use mathlib.Core.Bool.{Bool, true, false, cond}
 use mathlib.Core.List.{List, [], ◌∷◌}
 use mathlib.Core.Logic.{⊎_elim}
 use lib.Dec.{eqb}
 use lib.ListN.{length, get_or, drop}
 use borrow.Author.Tests.{eqb-true, eqb-false, le-ltb}
 use Rattle.cells.specs.Lists.{from, below}
-use Rattle.cells.proofs.Parts.{left_step, left_end}
+use Rattle.cells.proofs.Parts.{left_step, left_end, from_length, from_at}
 use Rattle.cells.proofs.Rows.{lt_or_ge}
 use Rattle.tables.specs.Answer.{and_then, each, Answer}
 use Rattle.tables.specs.Layout.{opcode_in, attributes_in, attributes_span_in}
@@ -22,7 +21,7 @@ use Rattle.lookups.specs.Verdict.{fail_if}
 use Rattle.rules_small.specs.Rounding.{flushed}
 use Rattle.rules.specs.Operation.{arm_of, arm_rule, judged, verify_operation, rules}
 
--- asked along a list from entry k on, and along the numbers from k to the end
+-- asked along a list from entry k on
 module _ (f : ℕ → Answer) (k : ℕ) where
   pub entries_step : (xs : List ℕ) → k < length xs → each f (drop k xs) ≡ and_then (f (get_or xs k 0)) (each f (drop (k + 1) xs))
   entries_step xs h = ap (each f) (left_step xs k 0 h)
@@ -30,11 +29,19 @@ module _ (f : ℕ → Answer) (k : ℕ) where
   pub entries_end : (xs : List ℕ) → length xs ≤ k → each f (drop k xs) ≡ Ok tt
   entries_end xs h = ap (each f) (left_end xs k 0 h)
 
-  pub numbers_step : (end : ℕ) → k < end → each f (from k (end - k)) ≡ and_then (f k) (each f (from (k + 1) (end - (k + 1))))
-  numbers_step end h = let e : end - k ≡ suc (end - (k + 1)) = omega arith in rw (e, add-one)
+-- the same along the table's order or the one given
+module _ (f : ℕ → Answer) where
+  pub along_step : (straight : Bool) (order : List ℕ) (k : ℕ) → k < length order
+      → each f (drop k (cond straight (below (length order)) order))
+      ≡ and_then (f (cond straight k (get_or order k 0))) (each f (drop (k + 1) (cond straight (below (length order)) order)))
+  along_step true order k h =
+      entries_step f k (below (length order)) (omega (arith, h, from_length 0 (length order)))
+      ∙ ap (λ (i : ℕ). and_then (f i) (each f (drop (k + 1) (below (length order))))) (from_at 0 (length order) k h ∙ omega arith)
+  along_step false order k h = entries_step f k order h
 
-  pub numbers_end : (end : ℕ) → end ≤ k → each f (from k (end - k)) ≡ Ok tt
-  numbers_end end h = let e : end - k ≡ 0 = omega arith in rw e
+  pub along_end : (straight : Bool) (order : List ℕ) (k : ℕ) → length order ≤ k → each f (drop k (cond straight (below (length order)) order)) ≡ Ok tt
+  along_end true order k h = entries_end f k (below (length order)) (omega (arith, h, from_length 0 (length order)))
+  along_end false order k h = entries_end f k order h
 
 -- an operation with no attribute has none that flushes
 pub unflushed : (sheet : List ℕ) (x : Tables) (i : ℕ) → (attributes_in x.o x.counts i).len ≡ 0 → judged i (flushed sheet x i) ≡ Ok tt

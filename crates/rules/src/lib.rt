@@ -1,7 +1,7 @@
 // Codes 11 and 12: the operation rules, arm by arm, over operations given in walk order.
 #![tactic(auto)]
 
-ghost use Rattle.std.specs.Prelude.{◌≡◌};
+ghost use Rattle.std.specs.Prelude.{◌≡◌, cond, length};
 ghost use Rattle.cells.specs.Lists.{below};
 ghost use Rattle.tables.specs.Tables.{opcode};
 ghost use Rattle.rules.specs.Operation.{arm_of, arm_rule, judged, verify_operation, rules};
@@ -71,23 +71,21 @@ fn verify_operation(version: u64, x: &Tables<'_>, sheet: &[u64], operation: u64)
     judged(operation, rules_small::flushed(x, sheet, operation))
 }
 
-// The rules of the operations, in the order given: the first refusal.
-#[tactic(auto, using(crate::proofs::Along::entries_step, crate::proofs::Along::entries_end), unfolding(crate::specs::Operation::rules))]
-fn rules_along(version: u64, x: &Tables<'_>, sheet: &[u64], order: &[u64]) -> Answer
-    ensures { result ≡ rules version sheet.now x.now order.now }
+// The place itself, or what is given for it.
+fn place_or(straight: bool, place: u64, given: u64) -> u64
+    ensures { result ≡ cond straight place given }
 {
-    for &operation in order {
-        verify_operation(version, x, sheet, operation)?;
-    }
-    Ok(())
+    if straight { place } else { given }
 }
 
-// The rules of the first so many operations of the table, in its order: the first refusal.
-#[tactic(auto, using(crate::proofs::Along::numbers_step, crate::proofs::Along::numbers_end), unfolding(crate::specs::Operation::rules))]
-fn rules_straight(version: u64, x: &Tables<'_>, sheet: &[u64], count: u64) -> Answer
-    ensures { result ≡ rules version sheet.now x.now (below count) }
+// The rules of the operations, in the order given or in that of the table: the first refusal. One loop for both: the rules stand in it once, and
+// are not called.
+#[tactic(auto, using(crate::proofs::Along::along_step, crate::proofs::Along::along_end), unfolding(crate::specs::Operation::rules))]
+fn rules_along(version: u64, x: &Tables<'_>, sheet: &[u64], order: &[u64], straight: bool) -> Answer
+    ensures { result ≡ rules version sheet.now x.now (cond straight (below (length order.now)) order.now) }
 {
-    for operation in 0..count {
+    for (k, &given) in order.iter().enumerate() {
+        let operation = place_or(straight, k as u64, given);
         verify_operation(version, x, sheet, operation)?;
     }
     Ok(())
@@ -100,9 +98,9 @@ pub fn check_rules(version: u64, x: &Tables<'_>, sheet: &[u64], order: &[u64]) -
     ensures { result ≡ rules version sheet.now x.now order.now }
 {
     if x.counts().operations <= order.len() as u64 {
-        if let Ok(()) = rules_straight(version, x, sheet, order.len() as u64) {
+        if let Ok(()) = rules_along(version, x, sheet, order, true) {
             return Ok(());
         }
     }
-    rules_along(version, x, sheet, order)
+    rules_along(version, x, sheet, order, false)
 }
