@@ -204,7 +204,7 @@ pub fn f_to_f(version: u64, x: &Tables<'_>, sheet: &[u64], operation: u64) -> Ve
     fail_if(tiles::is_integer(dst.kind), 4)?;
     fail_if(src.kind == dst.kind, 5)?;
     let rounding = lookups::integer(x, operation, names::ROUNDING_MODE);
-    let rounded = rounding.is_some_and(|r| is_rounding(sheet, version, src.kind, dst.kind, r));
+    let rounded = matches!(rounding, Some(r) if is_rounding(sheet, version, src.kind, dst.kind, r));
     fail_if(!rounded, 6)
 }
 
