@@ -75,7 +75,7 @@ fn read_to_end<R: Read + Drop>(mut reader: R, text: &mut [u8]) -> io::Result<usi
     while done < text.len() {
         let count = reader.read(&mut text[done..])?;
         if count == 0 {
-            break;
+            return Ok(done);
         }
         done += count;
     }
