@@ -3,9 +3,8 @@ ghost use Rattle.std.specs.Prelude.{◌≤◌, length, IfOk};
 
 use crate::said;
 use std::env::{Env, FillError};
-use std::fs;
-use std::io;
 use std::io::{Input, Read};
+use std::{fs, io};
 
 // As many bytes of a word as are read, which hold any path.
 const MOST_WORD: usize = 4096;

@@ -43,7 +43,9 @@ pub fn placed(rt: &HostRuntime, places: &[u64], lengths: &[u64]) -> io::Result<(
 }
 
 pub fn usage(rt: &HostRuntime) -> io::Result<()> {
-    eprintln!(rt; "lavrindes: these words are not understood; `lavrindes help` lists those that are")
+    eprintln!(rt;
+        "lavrindes: these words are not understood; `lavrindes help` lists those that are"
+    )
 }
 
 // A path is bytes, so it is written as it stands.
@@ -54,11 +56,19 @@ pub fn unreadable(rt: &HostRuntime, path: &[u8]) -> io::Result<()> {
 }
 
 pub fn help(rt: &HostRuntime) -> io::Result<()> {
-    println!(rt; "lavrindes check MODULE SHEET        ok and the numbers of each function's operands, or the first refusal")?;
-    println!(rt; "lavrindes part NAME MODULE SHEET    one part alone: tables, dominance, numbering, requirements or rules")?;
-    println!(rt; "lavrindes places MODULE NUMBERS     numbers read back: kind, id and index of each operand's place")?;
+    println!(rt;
+        "lavrindes check MODULE SHEET        ok and the numbers of each function's operands, or the first refusal"
+    )?;
+    println!(rt;
+        "lavrindes part NAME MODULE SHEET    one part alone: tables, dominance, numbering, requirements or rules"
+    )?;
+    println!(rt;
+        "lavrindes places MODULE NUMBERS     numbers read back: kind, id and index of each operand's place"
+    )?;
     println!(rt; "lavrindes help | version")?;
-    println!(rt; "A file named - is standard input. The first line is ok or no with code, id and detail.")
+    println!(rt;
+        "A file named - is standard input. The first line is ok or no with code, id and detail."
+    )
 }
 
 pub fn version(rt: &HostRuntime) -> io::Result<()> {
