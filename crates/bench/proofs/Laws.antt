@@ -1,7 +1,10 @@
 -- What the check over texts leaves in its lent slices.
 use Prim.Native.Nat.{ℕ}
-use mathlib.Core.Path.{◌≡◌, ap, ◌∙◌}
+use mathlib.Core.Path.{◌≡◌, refl, ap, ◌∙◌}
 use mathlib.Core.List.{List}
+use Rattle.std.specs.Prelude.{Result, Ok, Err}
+use Rattle.tables.specs.declared.Refusal.{Refusal}
+use Rattle.table_checks.specs.Checked.{answer_of}
 use Rattle.text_check.specs.Texts.{Texts}
 use Rattle.answers.specs.Noted.{told, noted}
 
@@ -18,3 +21,9 @@ texts_left out q e = (
     ),
   ),
 )
+
+-- what is told of the table checks says nothing of how many operations they wrote
+pub told_same : (w : Result ℕ Refusal) → told w ≡ told (answer_of w)
+unfolding told
+told_same (Ok m) = refl
+told_same (Err r) = refl
