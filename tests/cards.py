@@ -90,7 +90,7 @@ def lines(name):
 
 def run():
     """Of each case: what it asks, its sheet, its module, and what is printed."""
-    asked = re.findall(r'(plain|with_widths)\(\s*rt,\s*b"([^"]*)",\s*"([^"]*)"', open("crates/cards/src/main.rt").read())
+    asked = re.findall(r'(plain|with_widths)\(\s*rt,\s*"([^"]*)",\s*"([^"]*)"', open("crates/cards/src/main.rt").read())
     printed = [part.splitlines() for part in open("crates/cards/stdout").read().split("card ")[1:]]
     if [title for _, title, _ in asked] != [part[0] for part in printed]:
         sys.exit("the program asks other cards than its stdout has")

@@ -12,9 +12,9 @@ const MOST_TEXT: usize = 65536;
 // What stands where no length is written: no function has so many operands.
 const NO_LENGTH: u64 = u64::MAX;
 
-// A file that cannot be opened is told on standard error, and the card has no answer.
+// A file that cannot be opened is told on standard error, and the card has no answer. What cannot be printed is passed over.
 pub fn card(rt: &HostRuntime, asks: &str, module: &str, sheet: &str) -> io::Result<()> {
-    said::asked(rt, asks)?;
+    let _ = said::asked(rt, asks);
     let mut sheet_text = [0u8; MOST_TEXT];
     let sheet_length = match fs::open(rt, sheet) {
         Ok(file) => read_full(file, &mut sheet_text),
@@ -25,7 +25,8 @@ pub fn card(rt: &HostRuntime, asks: &str, module: &str, sheet: &str) -> io::Resu
         Ok(file) => read_full(file, &mut text),
         Err(why) => return said::unopened(rt, module, why),
     };
-    with_texts(rt, &sheet_text[..sheet_length], &text[..length])
+    let _ = with_texts(rt, &sheet_text[..sheet_length], &text[..length]);
+    Ok(())
 }
 
 // Reads until the text is full, the file ends or a read fails; how many bytes it put at the start of the text.
