@@ -1,6 +1,6 @@
 #!/usr/bin/env python3
-"""Prints, for two trees of this repository, what changed of the public signatures and clauses, types, definitions and stated theorems,
-old and new side by side, as Markdown: python3 tools/side_by_side.py OLD_FOLDER [NEW_FOLDER]
+"""Prints, for two trees of this repository, what changed of the public signatures and clauses, types and definitions, and of the theorems that
+README or docs/ name, old and new side by side, as Markdown: python3 tools/side_by_side.py OLD_FOLDER [NEW_FOLDER]
 """
 import glob, os, re, sys
 
@@ -89,7 +89,15 @@ def antt_items(top):
     return items
 
 
-def show(title, old, new, moved):
+def named(top):
+    words = set()
+    for page in glob.glob(top + '/docs/*.md') + [top + '/README.md']:
+        if os.path.basename(page) not in ('PORT.md', 'DESIGN-PASS.md'):
+            words |= set(re.findall(r'`([\w-]+)`', open(page).read()))
+    return words
+
+
+def show(title, old, new):
     keys = sorted(set(old) | set(new))
     out = []
     for key in keys:
@@ -105,19 +113,23 @@ def show(title, old, new, moved):
                     continue
         out.append((key, a, b))
     print(f'### {title}: {len(out)}\n')
+    print('```')
     for (place, name), a, b in out:
-        print(f'`{place}` `{name}`\n')
-        print('```')
+        print(f'{place} {name}')
         for x in a:
-            print('old  ' + x)
+            print('  old  ' + x)
         for x in (b or ['(gone: see "Gone")']):
-            print('new  ' + x)
-        print('```\n')
+            print('  new  ' + x)
+    print('```\n')
 
 
 ro, rn = rust_items(old_top), rust_items(new_top)
 ao, an = antt_items(old_top), antt_items(new_top)
-show('Public functions and types', ro, rn, True)
-split = lambda d, k: {x: v for x, v in d.items() if x[0].split()[1].startswith(k)}
-show('Definitions', split(ao, 'specs'), split(an, 'specs'), False)
-show('Theorems', split(ao, 'proofs'), split(an, 'proofs'), False)
+def split(items, kind):
+    return {x: v for x, v in items.items() if x[0].split()[1].startswith(kind)}
+
+
+words = named(old_top)
+show('Public functions and types', ro, rn)
+show('Definitions', split(ao, 'specs'), split(an, 'specs'))
+show('Theorems that README or docs/ name', {k: v for k, v in split(ao, 'proofs').items() if k[1] in words}, split(an, 'proofs'))
