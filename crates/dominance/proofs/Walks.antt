@@ -6,7 +6,7 @@ use mathlib.Core.Path.{◌≡◌, refl, sym, ap, ◌∙◌, subst}
 use mathlib.Core.List.{List, [], ◌∷◌}
 use lib.ListN.{length, get_or, drop}
 use Rattle.cells.proofs.Parts.{left_step, left_end}
-use Rattle.tables.specs.Tables.{Tables, functions, regions, blocks, operations, arguments}
+use Rattle.tables.specs.Tables.{Tables, lent, functions, regions, blocks, operations, arguments}
 use Rattle.tables.specs.Answer.{and_then, Answer}
 use Rattle.std.specs.Prelude.{Ok, Err}
 use Rattle.tables.specs.declared.Refusal.{Refusal}
@@ -19,6 +19,10 @@ use Rattle.scope.specs.declared.Live.{Live}
 use Rattle.scope.specs.declared.Scope.{Scope}
 use Rattle.scope.proofs.Laws.{Begins, begins_same, begins_on, begins_all, holds_back}
 use Rattle.dominance.specs.Walk.{Tells, Visited, Level, Stands, Went, told, after, region_judged, block_judged, operation_judged, regions_judged, function_judged, whole_judged}
+
+-- the tables that the walk reads, with any types, values and attributes beside them
+abbrev pub beside : Tables → List ℕ → List ℕ → List ℕ → Tables
+beside x t v a = lent t v x.o a x.b x.r x.f x.l x.counts
 
 -- ---- ids visited one by one: f judges each, and g is what is live after it
 
@@ -42,17 +46,17 @@ pub record Going (f : ℕ → List ℕ → ℕ → Answer) (depth : ℕ) (g : Li
   pub leads : grown g now_live (drop i xs) ≡ grown g live xs
 
 -- what each loop keeps
-pub record Loop (x : Tables) (bases claims : List ℕ) (f : ℕ → List ℕ → ℕ → Answer) (g : List ℕ → ℕ → List ℕ) (xs : List ℕ) {N : ℕ}
+pub record Loop (x : Tables) (bases claims : List ℕ) (f : Tables → ℕ → List ℕ → ℕ → Answer) (g : Tables → List ℕ → ℕ → List ℕ) (xs : List ℕ) {N : ℕ}
     (stack₀ : Live N) (from : Scope) (stack : Live N) (to : Scope) (i : ℕ) : Type 0 where
   pub depth : to.depth ≡ from.depth
-  pub going : Tells x bases claims → (live : List ℕ) → Holds x.counts.values stack₀ from.next live
-      → Going f from.depth g xs live x.counts.values stack to.next i
+  pub going : (t v a : List ℕ) → Tells (beside x t v a) bases claims → (live : List ℕ) → Holds x.counts.values stack₀ from.next live
+      → Going (f (beside x t v a)) from.depth (g (beside x t v a)) xs live x.counts.values stack to.next i
 
-pub loop_start : {x : Tables} {bases claims : List ℕ} {f : ℕ → List ℕ → ℕ → Answer} {g : List ℕ → ℕ → List ℕ} {xs : List ℕ} {N : ℕ} {stack : Live N} {from : Scope}
-    → Loop x bases claims f g xs stack from stack from 0
+pub loop_start : {x : Tables} {bases claims : List ℕ} {f : Tables → ℕ → List ℕ → ℕ → Answer} {g : Tables → List ℕ → ℕ → List ℕ} {xs : List ℕ} {N : ℕ} {stack : Live N}
+    {from : Scope} → Loop x bases claims f g xs stack from stack from 0
 loop_start = record {
   depth = refl;
-  going = λ tells live h. record { now_live = live; stands = h; said = refl; leads = refl };
+  going = λ t v a tells live h. record { now_live = live; stands = h; said = refl; leads = refl };
 }
 
 pub level_is : {w : Visited} {u : Scope} {d : ℕ} → Level w d → w ≡ Ok u → u.depth ≡ d

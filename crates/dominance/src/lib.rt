@@ -2,6 +2,7 @@
 #![tactic(auto)]
 
 ghost use Rattle.std.specs.Prelude.{◌≡◌, List, [], ℕ, Ok};
+ghost use Rattle.tables.specs.Tables.{lent};
 ghost use Rattle.table_checks.specs.Checks.{table_checks};
 ghost use Rattle.values.specs.Claims.{Filled};
 ghost use Rattle.nesting.specs.Shape.{visit};
@@ -46,7 +47,7 @@ fn add_results<const N: usize>(
     id: u64,
 ) -> Scope
     ensures depth_value { result.depth ≡ scope.depth }
-    ensures shows { Tells x.now claims.now.bases.now claims.now.claims.now → (live : List ℕ) → Holds x.now.counts.values stack.old scope.next live → Holds x.now.counts.values stack.new result.next (after x.now live id) }
+    ensures shows { (t v a : List ℕ) → let y = lent t v x.now.o a x.now.b x.now.r x.now.f x.now.l x.now.counts in Tells y claims.now.bases.now claims.now.claims.now → (live : List ℕ) → Holds x.now.counts.values stack.old scope.next live → Holds x.now.counts.values stack.new result.next (after y live id) }
 {
     let mut s = scope;
     for k in 0..x.result_types(id).len() as u64 {
@@ -67,7 +68,7 @@ fn open_operation<const N: usize>(
     id: u64,
 ) -> Result<Scope, Refusal>
     ensures level { Level result scope.depth }
-    ensures went { Tells x.now claims.now.bases.now claims.now.claims.now → (live : List ℕ) → Holds x.now.counts.values stack.old scope.next live → Went result x.now.counts.values stack.new (after x.now live id) (judged x.now (visit id live)) }
+    ensures went { (t v a : List ℕ) → let y = lent t v x.now.o a x.now.b x.now.r x.now.f x.now.l x.now.counts in Tells y claims.now.bases.now claims.now.claims.now → (live : List ℕ) → Holds x.now.counts.values stack.old scope.next live → Went result x.now.counts.values stack.new (after y live id) (judged y (visit id live)) }
 {
     judge_operands(stack, scope.next, id, x.operands(id))?;
     Ok(add_results(x, claims, stack, scope, id))
@@ -83,7 +84,7 @@ fn visit_regions<const N: usize>(
     regions: &[u64],
 ) -> Result<Scope, Refusal>
     ensures level { Level result scope.depth }
-    ensures went { Tells x.now claims.now.bases.now claims.now.claims.now → (live : List ℕ) → Holds x.now.counts.values stack.old scope.next live → Went result x.now.counts.values stack.new live (regions_judged x.now scope.depth live regions.now) }
+    ensures went { (t v a : List ℕ) → let y = lent t v x.now.o a x.now.b x.now.r x.now.f x.now.l x.now.counts in Tells y claims.now.bases.now claims.now.claims.now → (live : List ℕ) → Holds x.now.counts.values stack.old scope.next live → Went result x.now.counts.values stack.new live (regions_judged y scope.depth live regions.now) }
 {
     let mut s = scope;
     for &region in regions {
@@ -102,7 +103,7 @@ fn visit_region<const N: usize>(
     id: u64,
 ) -> Result<Scope, Refusal>
     ensures level { Level result scope.depth }
-    ensures went { Tells x.now claims.now.bases.now claims.now.claims.now → (live : List ℕ) → Holds x.now.counts.values stack.old scope.next live → Went result x.now.counts.values stack.new live (region_judged x.now scope.depth live id) }
+    ensures went { (t v a : List ℕ) → let y = lent t v x.now.o a x.now.b x.now.r x.now.f x.now.l x.now.counts in Tells y claims.now.bases.now claims.now.claims.now → (live : List ℕ) → Holds x.now.counts.values stack.old scope.next live → Went result x.now.counts.values stack.new live (region_judged y scope.depth live id) }
 {
     if scope.depth == 0 {
         return Ok(scope);
@@ -124,7 +125,7 @@ fn visit_block<const N: usize>(
     id: u64,
 ) -> Result<Scope, Refusal>
     ensures level { Level result scope.depth }
-    ensures went { Tells x.now claims.now.bases.now claims.now.claims.now → (live : List ℕ) → Holds x.now.counts.values stack.old scope.next live → Went result x.now.counts.values stack.new live (block_judged x.now scope.depth live id) }
+    ensures went { (t v a : List ℕ) → let y = lent t v x.now.o a x.now.b x.now.r x.now.f x.now.l x.now.counts in Tells y claims.now.bases.now claims.now.claims.now → (live : List ℕ) → Holds x.now.counts.values stack.old scope.next live → Went result x.now.counts.values stack.new live (block_judged y scope.depth live id) }
 {
     let mut inside = stack.add_all(scope, x.arguments(id));
     for &operation in x.operations(id) {
@@ -143,7 +144,7 @@ fn visit_operation<const N: usize>(
     id: u64,
 ) -> Result<Scope, Refusal>
     ensures level { Level result scope.depth }
-    ensures went { Tells x.now claims.now.bases.now claims.now.claims.now → (live : List ℕ) → Holds x.now.counts.values stack.old scope.next live → Went result x.now.counts.values stack.new (after x.now live id) (operation_judged x.now scope.depth live id) }
+    ensures went { (t v a : List ℕ) → let y = lent t v x.now.o a x.now.b x.now.r x.now.f x.now.l x.now.counts in Tells y claims.now.bases.now claims.now.claims.now → (live : List ℕ) → Holds x.now.counts.values stack.old scope.next live → Went result x.now.counts.values stack.new (after y live id) (operation_judged y scope.depth live id) }
 {
     let inner = open_operation(x, claims, stack, scope, id)?;
     visit_regions(x, claims, stack, inner, x.regions(id))
@@ -156,7 +157,7 @@ fn visit_function<const N: usize>(
     stack: &mut Live<N>,
     id: u64,
 ) -> Result<Scope, Refusal>
-    ensures { Tells x.now claims.now.bases.now claims.now.claims.now → Holds x.now.counts.values stack.old 0 [] → Went result x.now.counts.values stack.new [] (function_judged x.now id) }
+    ensures { (t v a : List ℕ) → let y = lent t v x.now.o a x.now.b x.now.r x.now.f x.now.l x.now.counts in Tells y claims.now.bases.now claims.now.claims.now → Holds x.now.counts.values stack.old 0 [] → Went result x.now.counts.values stack.new [] (function_judged y id) }
 {
     let start = Scope {
         next: 0,
@@ -171,7 +172,7 @@ fn visit_functions<const N: usize>(
     claims: &Claims<'_>,
     stack: &mut Live<N>,
 ) -> Answer
-    ensures { Tells x.now claims.now.bases.now claims.now.claims.now → Holds x.now.counts.values stack.old 0 [] → result ≡ whole_judged x.now }
+    ensures { (t v a : List ℕ) → let y = lent t v x.now.o a x.now.b x.now.r x.now.f x.now.l x.now.counts in Tells y claims.now.bases.now claims.now.claims.now → Holds x.now.counts.values stack.old 0 [] → result ≡ whole_judged y }
 {
     for &id in x.functions() {
         visit_function(x, claims, stack, u64::from(id))?;
@@ -181,7 +182,7 @@ fn visit_functions<const N: usize>(
 
 // For a caller that has asked 1 to 4 and hands on the claims: a small stack is soon cleared.
 pub fn after_checks(x: &Tables<'_>, claims: &Claims<'_>) -> Answer
-    ensures { table_checks x.now ≡ Ok tt → Filled x.now claims.now.bases.now claims.now.claims.now → result ≡ visibleAll x.now }
+    ensures { (t v a : List ℕ) → let y = lent t v x.now.o a x.now.b x.now.r x.now.f x.now.l x.now.counts in table_checks y ≡ Ok tt → Filled y claims.now.bases.now claims.now.claims.now → result ≡ visibleAll y }
 {
     let values = x.counts().values;
     if values <= FEW_VALUES {

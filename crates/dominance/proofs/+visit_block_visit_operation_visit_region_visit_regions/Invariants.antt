@@ -19,12 +19,12 @@ decreases-visit_regions g l = 4 * l.scope.depth + 1
 
 abbrev pub invariant-visit_block-loop-operation : goal.invariant-visit_block-loop-operation
 invariant-visit_block-loop-operation g z =
-    Loop z.x z.claims.bases.now z.claims.claims.now (operation_judged z.x) (after z.x) z.operation-items z.initial.stack z.initial.inside z.stack z.inside z.operation-index
+    Loop z.x z.claims.bases.now z.claims.claims.now operation_judged after z.operation-items z.initial.stack z.initial.inside z.stack z.inside z.operation-index
 
 abbrev pub invariant-visit_region-loop-block : goal.invariant-visit_region-loop-block
 invariant-visit_region-loop-block g z =
-    Loop z.x z.claims.bases.now z.claims.claims.now (block_judged z.x) (same z.x) z.block-items z.initial.stack z.initial.s z.stack z.s z.block-index
+    Loop z.x z.claims.bases.now z.claims.claims.now block_judged same z.block-items z.initial.stack z.initial.s z.stack z.s z.block-index
 
 abbrev pub invariant-visit_regions-loop-region : goal.invariant-visit_regions-loop-region
 invariant-visit_regions-loop-region g z =
-    Loop z.x z.claims.bases.now z.claims.claims.now (region_judged z.x) (same z.x) z.regions z.initial.stack z.initial.s z.stack z.s z.region-index
+    Loop z.x z.claims.bases.now z.claims.claims.now region_judged same z.regions z.initial.stack z.initial.s z.stack z.s z.region-index

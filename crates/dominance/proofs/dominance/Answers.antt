@@ -15,4 +15,4 @@ returns c =
     let x = c.args.x.now in
     let h = c.check_tables.ensures in
     let passed = fine_is _ _ c.in_ok-check_tables.was h.0 in
-    c.after_checks.ensures passed (h.1 passed (refl, refl)) ∙ alone_goes x passed
+    c.after_checks.ensures x.t x.v x.a passed (h.1 passed (refl, refl)) ∙ alone_goes x passed
