@@ -1,9 +1,9 @@
 -- The rules read no block, region and function, of any list of operations. Assumes nothing.
 use Prim.Native.Nat.{ℕ}
-use mathlib.Core.Path.{◌≡◌, refl, ap, ◌∙◌}
+use mathlib.Core.Path.{◌≡◌, refl, sym, ap, ◌∙◌}
 use mathlib.Core.List.{List, [], ◌∷◌}
 use Rattle.tables.specs.Answer.{and_then, each, Answer}
-use Rattle.tables.specs.Tables.{Tables}
+use Rattle.tables.specs.Tables.{Tables, lent}
 use Rattle.rules.specs.Operation.{verify_operation, rules}
 use Rattle.rules.proofs.Laws.{bare, operation_bare}
 
@@ -16,3 +16,9 @@ pub rules_bare : (version : ℕ) (sheet : List ℕ) (x : Tables) (order : List �
 unfolding rules
 rules_bare version sheet x order =
     each_same (verify_operation version sheet (bare x)) (verify_operation version sheet x) (operation_bare version sheet x) order
+
+-- so blocks, regions and functions may be any
+pub rules_beside : (version : ℕ) (sheet : List ℕ) (x : Tables) (b r f order : List ℕ)
+    → rules version sheet x order ≡ rules version sheet (lent x.t x.v x.o x.a b r f x.l x.counts) order
+rules_beside version sheet x b r f order =
+    sym (rules_bare version sheet x order) ∙ rules_bare version sheet (lent x.t x.v x.o x.a b r f x.l x.counts) order

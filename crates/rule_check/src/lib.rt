@@ -1,7 +1,8 @@
 // Codes 11 and 12 called alone: 16 and 1 to 4 are asked first, then the rules of every reachable operation in walk order.
 #![tactic(auto)]
 
-ghost use Rattle.std.specs.Prelude.{◌≡◌, take};
+ghost use Rattle.std.specs.Prelude.{◌≡◌, List, ℕ, take};
+ghost use Rattle.tables.specs.Tables.{lent};
 ghost use Rattle.rules.specs.Operation.{rules};
 ghost use Rattle.rule_check.specs.Alone.{rules_alone};
 
@@ -10,7 +11,7 @@ use tables::{Answer, Tables, Target};
 
 // For a caller that has asked 16 and 1 to 4: the walk order is the first so many entries of the list.
 pub fn after_checks(g: Target, x: &Tables<'_>, sheet: &[u64], list: &[u64], count: u64) -> Answer
-    ensures { result ≡ rules g.version sheet.now x.now (take count list.now) }
+    ensures { (b r f : List ℕ) → result ≡ rules g.version sheet.now (lent x.now.t x.now.v x.now.o x.now.a b r f x.now.l x.now.counts) (take count list.now) }
 {
     let order = cells::entries(
         list,
