@@ -24,7 +24,7 @@ pub fn after_checks(g: Target, x: &Tables<'_>, sheet: &[u64], list: &[u64], coun
 }
 
 // The claims are not asked for.
-#[tactic(auto, using(crate::proofs::Handed::sheet_order), unfolding(crate::specs::Alone::rules_alone))]
+#[tactic(auto, unfolding(crate::specs::Alone::rules_alone))]
 pub fn check_alone(g: Target, x: &Tables<'_>, sheet: &[u64]) -> Answer
     ensures { result ≡ rules_alone g sheet.now x.now }
 {
