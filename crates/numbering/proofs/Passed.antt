@@ -20,8 +20,7 @@ use Rattle.table_checks.proofs.Reach.{operations_once, blocks_once, regions_once
 use Rattle.nesting.specs.Passed.{Apart, Single, all_arguments}
 use Rattle.nesting.specs.Numbering.{Listing, fine, refused, numbering}
 use Rattle.nesting.proofs.Theorems.{stack_numbering}
-use Rattle.scope.specs.Stack.{see_all, Holds}
-use Rattle.scope.specs.declared.Live.{Live}
+use Rattle.scope.specs.Stack.{see_all}
 use Rattle.scope.proofs.Laws.{grows}
 use Rattle.numbering.specs.Alone.{Numbered, size, sizes, Outcome, outcome, over, handed_over, handed, filled_by, numbering_alone}
 use Rattle.numbering.specs.Fill.{Room, Told, entries_numbered}
@@ -29,10 +28,11 @@ use Rattle.numbering.proofs.Sizes.{all_fit_lem}
 
 module _ (x : Tables) (e : table_checks x ≡ Ok tt) where
   -- lists of the full sizes have room for all
-  pub room : {N : ℕ} {stack : Live N} → Holds x.counts.values stack 0 [] → {numbers lengths : List ℕ} → max_entries ≤ length numbers → max_functions ≤ length lengths
-      → Room x stack numbers lengths
-  room h hn hl = record {
-    empty = h;
+  pub room : {d s : List ℕ} → x.counts.values ≤ length d → x.counts.values ≤ length s → {numbers lengths : List ℕ} → max_entries ≤ length numbers
+      → max_functions ≤ length lengths → Room x d s numbers lengths
+  room hd hs hn hl = record {
+    dense = hd;
+    sparse = hs;
     all = omega (arith, all_fit_lem x e, hn);
     each = omega (arith, (passes_1 x e).functions_whole, (passes_1 x e).functions_fit, hl);
   }

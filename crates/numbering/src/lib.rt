@@ -3,6 +3,7 @@
 
 ghost use Rattle.std.specs.Prelude.{◌≡◌, List, ℕ, ◌≤◌, length, take, Ok};
 ghost use Rattle.tables.specs.Sizes.{max_entries, max_functions};
+ghost use Rattle.tables.specs.Tables.{lent};
 ghost use Rattle.values.specs.Claims.{Filled};
 ghost use Rattle.table_checks.specs.Checks.{table_checks};
 ghost use Rattle.nesting.specs.Numbering.{numbering as numbers_of};
@@ -20,21 +21,24 @@ const FEW_VALUES: u64 = 512;
 
 // Each answers with how many numbers are written, or with the first refusal.
 // The functions in order; how many numbers each has goes to lengths.
-fn visit_functions<const N: usize>(
+fn visit_functions(
     x: &Tables<'_>,
     sheet: &[u64],
     claims: &Claims<'_>,
-    stack: &mut Live<N>,
+    dense: &mut [u64],
+    sparse: &mut [u64],
     numbers: &mut [u64],
     lengths: &mut [u64],
 ) -> Result<u64, Refusal>
-    ensures { Tells x.now claims.now.bases.now claims.now.claims.now → Room x.now stack.old numbers.old lengths.old → Told result (entries_numbered sheet.now x.now) (sizes x.now) numbers.new lengths.new numbers.old lengths.old }
+    ensures { (t v a : List ℕ) → let y = lent t v x.now.o a x.now.b x.now.r x.now.f x.now.l x.now.counts in Tells y claims.now.bases.now claims.now.claims.now → Room y dense.old sparse.old numbers.old lengths.old → Told result (entries_numbered sheet.now y) (sizes y) numbers.new lengths.new numbers.old lengths.old }
 {
     let functions = x.functions();
     let mut done = 0;
     for (i, &id) in functions.iter().enumerate() {
         let id = u64::from(id);
-        let walked = numbering_walk::visit_function(x, sheet, claims, stack, numbers, done, id)?;
+        let walked = numbering_walk::visit_function(
+            x, sheet, claims, dense, sparse, numbers, done, id,
+        )?;
         cells::put(lengths, i as u64, walked.done.saturating_sub(done));
         done = walked.done;
     }
@@ -50,15 +54,31 @@ fn visit_all(
     numbers: &mut [u64],
     lengths: &mut [u64],
 ) -> Result<u64, Refusal>
-    ensures { table_checks x.now ≡ Ok tt → Filled x.now claims.now.bases.now claims.now.claims.now → max_entries ≤ length numbers.old → max_functions ≤ length lengths.old → Told result (entries_numbered sheet.now x.now) (sizes x.now) numbers.new lengths.new numbers.old lengths.old }
+    ensures { (t v a : List ℕ) → let y = lent t v x.now.o a x.now.b x.now.r x.now.f x.now.l x.now.counts in table_checks y ≡ Ok tt → Filled y claims.now.bases.now claims.now.claims.now → max_entries ≤ length numbers.old → max_functions ≤ length lengths.old → Told result (entries_numbered sheet.now y) (sizes y) numbers.new lengths.new numbers.old lengths.old }
 {
     let values = x.counts().values;
     if values <= FEW_VALUES {
         let mut stack = Live::<512>::new(values);
-        visit_functions(x, sheet, claims, &mut stack, numbers, lengths)
+        visit_functions(
+            x,
+            sheet,
+            claims,
+            &mut stack.dense,
+            &mut stack.sparse,
+            numbers,
+            lengths,
+        )
     } else {
         let mut stack = Live::<4096>::new(values);
-        visit_functions(x, sheet, claims, &mut stack, numbers, lengths)
+        visit_functions(
+            x,
+            sheet,
+            claims,
+            &mut stack.dense,
+            &mut stack.sparse,
+            numbers,
+            lengths,
+        )
     }
 }
 
@@ -70,7 +90,7 @@ pub fn after_checks(
     numbers: &mut [u64],
     lengths: &mut [u64],
 ) -> Result<u64, Refusal>
-    ensures { table_checks x.now ≡ Ok tt → Filled x.now claims.now.bases.now claims.now.claims.now → max_entries ≤ length numbers.old → max_functions ≤ length lengths.old → outcome result numbers.new lengths.new ≡ filled_by (numbers_of sheet.now x.now) (sizes x.now) numbers.old lengths.old }
+    ensures { (t v a : List ℕ) → let y = lent t v x.now.o a x.now.b x.now.r x.now.f x.now.l x.now.counts in table_checks y ≡ Ok tt → Filled y claims.now.bases.now claims.now.claims.now → max_entries ≤ length numbers.old → max_functions ≤ length lengths.old → outcome result numbers.new lengths.new ≡ filled_by (numbers_of sheet.now y) (sizes y) numbers.old lengths.old }
 {
     let numbered = visit_all(x, sheet, claims, numbers, lengths);
     if numbered.is_err() {

@@ -21,8 +21,7 @@ use Rattle.walk.proofs.Filling.{push_all_append}
 use Rattle.nesting.specs.Live.{to_list, value_at}
 use Rattle.nesting.specs.Numbering.{Listing, fine, refused, join, collect, there, values_there}
 use Rattle.nesting.specs.Direct.{look_up}
-use Rattle.scope.specs.Stack.{see, see_all, Holds}
-use Rattle.scope.specs.declared.Live.{Live}
+use Rattle.scope.specs.Stack.{see, see_all, Shows}
 use Rattle.scope.specs.declared.Scope.{Scope}
 use Rattle.numbering_walk.specs.Walk.{Visited, Went, compared, asked}
 use Rattle.numbering_walk.specs.declared.Walked.{Walked}
@@ -52,8 +51,8 @@ module _ {live : List ℕ} {i : ℕ} {vs : List ℕ} {p : Filled} {held : List �
   pub look_stop : k < length vs → position_from 0 (get_or vs k 0) live ≡ none → refused (NoNumber i k) ≡ look_up live i 0 vs
   look_stop h e = rw (left_step vs k 0 h, e) at inv.said
 
-  pub look_end : {u : Scope} {nv N : ℕ} {stack : Live N} → length vs ≤ k → Holds nv stack u.next live
-      → Went (Ok (record { scope = u; done = done })) nv stack live held p (look_up live i 0 vs)
+  pub look_end : {u : Scope} {nv : ℕ} {d s : List ℕ} → length vs ≤ k → Shows nv d s u.next live
+      → Went (Ok (record { scope = u; done = done })) nv d s live held p (look_up live i 0 vs)
   look_end h g = record {
     list = inv.list;
     answer = sym (join_none inv.list) ∙ (rw (left_end vs k 0 h) at inv.said);
@@ -87,20 +86,20 @@ abbrev pub all_there : (ℕ → Option ℕ) → ℕ → List ℕ → Listing ℕ
 all_there h i ks = collect (λ k. there (h k) (NoValue i k)) ks
 
 -- k of n results taken up: something is live now that the rest of them brings to what all of them bring, and none is missing yet
-pub record Taking (nv : ℕ) (h : ℕ → Option ℕ) (i n : ℕ) (live : List ℕ) {N : ℕ} (stack : Live N) (next k : ℕ) : Type 0 where
+pub record Taking (nv : ℕ) (h : ℕ → Option ℕ) (i n : ℕ) (live d s : List ℕ) (next k : ℕ) : Type 0 where
   pub now_live : List ℕ
-  pub stands : Holds nv stack next now_live
+  pub stands : Shows nv d s next now_live
   pub sees : see_all nv now_live (values_of h (from k (n - k))) ≡ see_all nv live (values_of h (below n))
   pub said : all_there h i (from k (n - k)) ≡ all_there h i (below n)
 
-pub taking_start : {nv : ℕ} {h : ℕ → Option ℕ} {i n : ℕ} {live : List ℕ} {N : ℕ} {stack : Live N} {next : ℕ} → Holds nv stack next live → Taking nv h i n live stack next 0
+pub taking_start : {nv : ℕ} {h : ℕ → Option ℕ} {i n : ℕ} {live d s : List ℕ} {next : ℕ} → Shows nv d s next live → Taking nv h i n live d s next 0
 taking_start {n = n} {live = live} g = let e : n - 0 ≡ n = omega arith in record { now_live = live; stands = g; sees = rw e; said = rw e }
 
-module _ {nv : ℕ} {h : ℕ → Option ℕ} {i n : ℕ} {live : List ℕ} {N : ℕ} {stack : Live N} {next k : ℕ} (inv : Taking nv h i n live stack next k) (l : k < n) where
+module _ {nv : ℕ} {h : ℕ → Option ℕ} {i n : ℕ} {live d s : List ℕ} {next k : ℕ} (inv : Taking nv h i n live d s next k) (l : k < n) where
   more : n - k ≡ suc (n - (k + 1))
   more = omega arith
 
-  pub taking_more : {stack' : Live N} {next' v : ℕ} → h k ≡ some v → Holds nv stack' next' (see nv inv.now_live v) → Taking nv h i n live stack' next' (k + 1)
+  pub taking_more : {d' s' : List ℕ} {next' v : ℕ} → h k ≡ some v → Shows nv d' s' next' (see nv inv.now_live v) → Taking nv h i n live d' s' next' (k + 1)
   taking_more {v = v} e g =
       let one : to_list (h k) ≡ v ∷ [] = rw e in
       record {
@@ -119,8 +118,8 @@ module _ {nv : ℕ} {h : ℕ → Option ℕ} {i n : ℕ} {live : List ℕ} {N : 
   pub taking_stop : h k ≡ none → refused (NoValue i k) ≡ all_there h i (below n)
   taking_stop e = rw (more, e) at inv.said
 
-module _ {nv : ℕ} {h : ℕ → Option ℕ} {i n : ℕ} {live : List ℕ} {N : ℕ} {stack : Live N} {k : ℕ} {u : Scope} (inv : Taking nv h i n live stack u.next k) where
-  pub taking_end : {held : List ℕ} {done : ℕ} → n ≤ k → Went (Ok (record { scope = u; done = done })) nv stack (see_all nv live (values_of h (below n))) held (filled held done) (all_there h i (below n))
+module _ {nv : ℕ} {h : ℕ → Option ℕ} {i n : ℕ} {live d s : List ℕ} {k : ℕ} {u : Scope} (inv : Taking nv h i n live d s u.next k) where
+  pub taking_end : {held : List ℕ} {done : ℕ} → n ≤ k → Went (Ok (record { scope = u; done = done })) nv d s (see_all nv live (values_of h (below n))) held (filled held done) (all_there h i (below n))
   taking_end g =
       let e : n - k ≡ 0 = omega arith in
       let q : inv.now_live ≡ see_all nv live (values_of h (below n)) = rw e at inv.sees in
@@ -138,8 +137,8 @@ module _ (x : Tables) (i : ℕ) where
 
 -- ---- all of an operation
 
-module _ (sheet : List ℕ) (x : Tables) (i : ℕ) (live : List ℕ) {w : Visited} {nv N : ℕ} {stack : Live N} {l₁ held : List ℕ} {p : Filled} {vs : List ℕ}
-    (ev : vs ≡ operands x i) (v : Went w nv stack l₁ held p (look_up live i 0 vs)) where
+module _ (sheet : List ℕ) (x : Tables) (i : ℕ) (live : List ℕ) {w : Visited} {nv : ℕ} {d s l₁ held : List ℕ} {p : Filled} {vs : List ℕ}
+    (ev : vs ≡ operands x i) (v : Went w nv d s l₁ held p (look_up live i 0 vs)) where
   pub open_stops : {why : Refusal} → w ≡ Err why → refused why ≡ asked sheet x i live
   unfolding asked
   open_stops {why} e = let q : look_up live i 0 (operands x i) ≡ refused why = ap (look_up live i 0) (sym ev) ∙ stops_is v e in rw q
@@ -152,7 +151,7 @@ module _ (sheet : List ℕ) (x : Tables) (i : ℕ) (live : List ℕ) {w : Visite
     unfolding asked
     count_stops {why} q = rw (looked, ← q)
 
-    pub open_goes : {w' : Visited} {stack' : Live N} {l₂ : List ℕ} → fine [] ≡ compared sheet x i → Went w' nv stack' l₂ held (filled held u.done) (values_there x i)
-        → Went w' nv stack' l₂ held p (asked sheet x i live)
+    pub open_goes : {w' : Visited} {d₂ s₂ l₂ : List ℕ} → fine [] ≡ compared sheet x i → Went w' nv d₂ s₂ l₂ held (filled held u.done) (values_there x i)
+        → Went w' nv d₂ s₂ l₂ held p (asked sheet x i live)
     unfolding asked
     open_goes q v' = went_after v.list (wrote_is v e) looked (went_after [] refl (sym q) v')

@@ -6,7 +6,7 @@ use mathlib.Core.Path.{◌≡◌, refl, sym, ap, ◌∙◌, subst}
 use mathlib.Core.List.{List, [], ◌∷◌, ◌++◌, append-nil}
 use lib.ListN.{length, get_or, drop}
 use Rattle.cells.proofs.Parts.{left_step, left_end}
-use Rattle.tables.specs.Tables.{Tables, regions, blocks, operations, arguments}
+use Rattle.tables.specs.Tables.{Tables, lent, regions, blocks, operations, arguments}
 use Rattle.std.specs.Prelude.{Ok, Err}
 use Rattle.tables.specs.declared.Refusal.{Refusal}
 use Rattle.walk.specs.Written.{Filled, filled, push_all}
@@ -17,10 +17,9 @@ use Rattle.nesting.specs.Numbering.{Listing, fine, refused, join}
 use Rattle.nesting.specs.Direct.{numbers_among}
 use Rattle.nesting.specs.Ask.{listings, all, fold_operation, fold_operations, fold_block, fold_region}
 use Rattle.nesting.proofs.Answers.{listings_lawful}
-use Rattle.scope.specs.Stack.{see_all, Holds}
-use Rattle.scope.specs.declared.Live.{Live}
+use Rattle.scope.specs.Stack.{see_all, Shows}
 use Rattle.scope.specs.declared.Scope.{Scope}
-use Rattle.scope.proofs.Laws.{Begins, begins_same, begins_on, begins_all, holds_back}
+use Rattle.scope.proofs.Laws.{Begins, begins_same, begins_on, begins_all, rolled}
 use Rattle.numbering_walk.specs.Walk.{Tells, Visited, Level, Stands, Reached, Went, told, asked, after, region_numbered, block_numbered, operation_numbered, regions_numbered}
 use Rattle.numbering_walk.specs.declared.Walked.{Walked}
 
@@ -40,9 +39,9 @@ join_none xs = ap fine (append-nil xs)
 pub level_is : {w : Visited} {u : Walked} {d : ℕ} → Level w d → w ≡ Ok u → u.scope.depth ≡ d
 level_is {d = d} h e = subst (λ (z : Visited). Level z d) e h
 
-module _ {w : Visited} {nv N : ℕ} {stack : Live N} {live held : List ℕ} {p : Filled} {a : Listing ℕ} (v : Went w nv stack live held p a) where
-  pub stands_is : {u : Walked} → w ≡ Ok u → Holds nv stack u.scope.next live
-  stands_is e = subst (λ (z : Visited). Stands z nv stack live) e v.stands
+module _ {w : Visited} {nv : ℕ} {d s live held : List ℕ} {p : Filled} {a : Listing ℕ} (v : Went w nv d s live held p a) where
+  pub stands_is : {u : Walked} → w ≡ Ok u → Shows nv d s u.scope.next live
+  stands_is e = subst (λ (z : Visited). Stands z nv d s live) e v.stands
 
   pub wrote_is : {u : Walked} → w ≡ Ok u → filled held u.done ≡ push_all p v.list
   wrote_is e = subst (λ (z : Visited). Reached z held (push_all p v.list)) e v.wrote
@@ -54,11 +53,11 @@ module _ {w : Visited} {nv N : ℕ} {stack : Live N} {live held : List ℕ} {p :
   stops_is e = sym v.answer ∙ ap (λ (z : Visited). told z v.list) e
 
 -- a refusal, with any arrays
-pub stopped : {why : Refusal} {nv N : ℕ} {stack : Live N} {live held : List ℕ} {p : Filled} {a : Listing ℕ} → refused why ≡ a → Went (Err why) nv stack live held p a
+pub stopped : {why : Refusal} {nv : ℕ} {d s live held : List ℕ} {p : Filled} {a : Listing ℕ} → refused why ≡ a → Went (Err why) nv d s live held p a
 stopped e = record { list = []; answer = e; stands = tt; wrote = tt }
 
 -- nothing is written
-pub unwritten : {u : Walked} {nv N : ℕ} {stack : Live N} {live held : List ℕ} {a : Listing ℕ} → fine [] ≡ a → Holds nv stack u.scope.next live → Went (Ok u) nv stack live held (filled held u.done) a
+pub unwritten : {u : Walked} {nv : ℕ} {d s live held : List ℕ} {a : Listing ℕ} → fine [] ≡ a → Shows nv d s u.scope.next live → Went (Ok u) nv d s live held (filled held u.done) a
 unwritten e g = record { list = []; answer = e; stands = g; wrote = refl }
 
 told_join : (w : Visited) (xs ys : List ℕ) → told w (xs ++ ys) ≡ join (fine xs) (told w ys)
@@ -66,8 +65,8 @@ told_join (Ok u) xs ys = refl
 told_join (Err r) xs ys = refl
 
 -- xs was written first
-pub went_after : {w : Visited} {nv N : ℕ} {stack : Live N} {live held : List ℕ} {p q : Filled} {a b : Listing ℕ} (xs : List ℕ) → q ≡ push_all p xs → a ≡ fine xs
-    → Went w nv stack live held q b → Went w nv stack live held p (join a b)
+pub went_after : {w : Visited} {nv : ℕ} {d s live held : List ℕ} {p q : Filled} {a b : Listing ℕ} (xs : List ℕ) → q ≡ push_all p xs → a ≡ fine xs
+    → Went w nv d s live held q b → Went w nv d s live held p (join a b)
 went_after {w} {held = held} {p = p} {b = b} xs eq ea v = record {
   list = xs ++ v.list;
   answer = told_join w xs v.list ∙ ap (join (fine xs)) v.answer ∙ ap (λ (z : Listing ℕ). join z b) (sym ea);
@@ -91,44 +90,45 @@ same x live k = live
 
 -- i of the ids xs are visited: the list so far is written from p on, and something is live now that the rest is visited with
 pub record Going (f : ℕ → List ℕ → ℕ → Listing ℕ) (depth : ℕ) (g : List ℕ → ℕ → List ℕ) (xs live : List ℕ) (nv : ℕ) (p : Filled)
-    {N : ℕ} (stack : Live N) (next : ℕ) (held : List ℕ) (done i : ℕ) : Type 0 where
+    (d s : List ℕ) (next : ℕ) (held : List ℕ) (done i : ℕ) : Type 0 where
   pub now_live : List ℕ
-  pub stands : Holds nv stack next now_live
+  pub stands : Shows nv d s next now_live
   pub list : List ℕ
   pub wrote : filled held done ≡ push_all p list
   pub said : join (fine list) (fold_ids (f depth) g now_live (drop i xs)) ≡ fold_ids (f depth) g live xs
   pub leads : grown g now_live (drop i xs) ≡ grown g live xs
 
--- what each loop keeps
-pub record Loop (x : Tables) (bases claims : List ℕ) (f : ℕ → List ℕ → ℕ → Listing ℕ) (g : List ℕ → ℕ → List ℕ) (xs : List ℕ) {N : ℕ}
-    (stack₀ : Live N) (held₀ : List ℕ) (from : Walked) (stack : Live N) (held : List ℕ) (to : Walked) (i : ℕ) : Type 0 where
+-- what each loop keeps, whatever the tables are that the walk does not read
+pub record Loop (x : Tables) (bases claims : List ℕ) (f : Tables → ℕ → List ℕ → ℕ → Listing ℕ) (g : Tables → List ℕ → ℕ → List ℕ)
+    (xs d₀ s₀ held₀ : List ℕ) (from : Walked) (d s held : List ℕ) (to : Walked) (i : ℕ) : Type 0 where
   pub depth : to.scope.depth ≡ from.scope.depth
-  pub going : Tells x bases claims → (live : List ℕ) → Holds x.counts.values stack₀ from.scope.next live
-      → Going f from.scope.depth g xs live x.counts.values (filled held₀ from.done) stack to.scope.next held to.done i
+  pub going : (t v a fs : List ℕ) → let y = lent t v x.o a x.b x.r fs x.l x.counts in Tells y bases claims → (live : List ℕ)
+      → Shows x.counts.values d₀ s₀ from.scope.next live
+      → Going (f y) from.scope.depth (g y) xs live x.counts.values (filled held₀ from.done) d s to.scope.next held to.done i
 
-pub loop_start : {x : Tables} {bases claims : List ℕ} {f : ℕ → List ℕ → ℕ → Listing ℕ} {g : List ℕ → ℕ → List ℕ} {xs : List ℕ} {N : ℕ}
-    {stack : Live N} {held : List ℕ} {from : Walked} → Loop x bases claims f g xs stack held from stack held from 0
+pub loop_start : {x : Tables} {bases claims : List ℕ} {f : Tables → ℕ → List ℕ → ℕ → Listing ℕ} {g : Tables → List ℕ → ℕ → List ℕ}
+    {xs d s held : List ℕ} {from : Walked} → Loop x bases claims f g xs d s held from d s held from 0
 loop_start = record {
   depth = refl;
-  going = λ tells live h. record { now_live = live; stands = h; list = []; wrote = refl; said = join_nil _; leads = refl };
+  going = λ t v a fs tells live h. record { now_live = live; stands = h; list = []; wrote = refl; said = join_nil _; leads = refl };
 }
 
-module _ {f : ℕ → List ℕ → ℕ → Listing ℕ} {depth : ℕ} {g : List ℕ → ℕ → List ℕ} {xs live : List ℕ} {nv : ℕ} {p : Filled} {N : ℕ} {stack : Live N} {next : ℕ}
-    {held : List ℕ} {done i : ℕ} (inv : Going f depth g xs live nv p stack next held done i) where
+module _ {f : ℕ → List ℕ → ℕ → Listing ℕ} {depth : ℕ} {g : List ℕ → ℕ → List ℕ} {xs live : List ℕ} {nv : ℕ} {p : Filled} {d s : List ℕ} {next : ℕ}
+    {held : List ℕ} {done i : ℕ} (inv : Going f depth g xs live nv p d s next held done i) where
   pub going_said : length xs ≤ i → fine inv.list ≡ fold_ids (f depth) g live xs
   going_said h = sym (join_none inv.list) ∙ (rw (left_end xs i 0 h) at inv.said)
 
-  pub going_live : length xs ≤ i → Holds nv stack next (grown g live xs)
+  pub going_live : length xs ≤ i → Shows nv d s next (grown g live xs)
   going_live h = let q : inv.now_live ≡ grown g live xs = rw (left_end xs i 0 h) at inv.leads in rw q at inv.stands
 
   -- the end: what is rolled back to
-  pub going_end : {u : Scope} {stack' : Live N} {live' : List ℕ} {a : Listing ℕ} → length xs ≤ i → fold_ids (f depth) g live xs ≡ a → Holds nv stack' u.next live'
-      → Went (Ok (record { scope = u; done = done })) nv stack' live' held p a
+  pub going_end : {u : Scope} {d' s' live' : List ℕ} {a : Listing ℕ} → length xs ≤ i → fold_ids (f depth) g live xs ≡ a → Shows nv d' s' u.next live'
+      → Went (Ok (record { scope = u; done = done })) nv d' s' live' held p a
   going_end h e g' = record { list = inv.list; answer = going_said h ∙ e; stands = g'; wrote = inv.wrote }
 
   -- a turn: the visit of the id at i
-  module _ {w : Visited} {stack' : Live N} {held' : List ℕ} {depth' : ℕ} (h : i < length xs) (e : depth' ≡ depth)
-      (v : Went w nv stack' (g inv.now_live (get_or xs i 0)) held' (filled held done) (f depth' inv.now_live (get_or xs i 0))) where
+  module _ {w : Visited} {d' s' held' : List ℕ} {depth' : ℕ} (h : i < length xs) (e : depth' ≡ depth)
+      (v : Went w nv d' s' (g inv.now_live (get_or xs i 0)) held' (filled held done) (f depth' inv.now_live (get_or xs i 0))) where
     deep : f depth inv.now_live (get_or xs i 0) ≡ f depth' inv.now_live (get_or xs i 0)
     deep = ap (λ (z : ℕ). f z inv.now_live (get_or xs i 0)) (sym e)
 
@@ -137,7 +137,7 @@ module _ {f : ℕ → List ℕ → ℕ → Listing ℕ} {depth : ℕ} {g : List 
         let z : f depth inv.now_live (get_or xs i 0) ≡ refused why = deep ∙ stops_is v q in
         rw (left_step xs i 0 h, z) at inv.said
 
-    pub going_more : {u : Walked} → w ≡ Ok u → Going f depth g xs live nv p stack' u.scope.next held' u.done (i + 1)
+    pub going_more : {u : Walked} → w ≡ Ok u → Going f depth g xs live nv p d' s' u.scope.next held' u.done (i + 1)
     going_more q =
         let z : f depth inv.now_live (get_or xs i 0) ≡ fine v.list = deep ∙ fine_is v q in
         record {
@@ -193,19 +193,26 @@ module _ (sheet : List ℕ) where
     unfolding fold_region
     region_none k e = rw e
 
-    module _ (i : ℕ) {w : Visited} {nv N : ℕ} {stack : Live N} {l₁ held : List ℕ} {p : Filled} (v : Went w nv stack l₁ held p (asked sheet x i live)) where
+    module _ (i : ℕ) {w : Visited} {nv : ℕ} {d₁ s₁ l₁ held : List ℕ} {p : Filled} (v : Went w nv d₁ s₁ l₁ held p (asked sheet x i live)) where
       pub operation_stops : {why : Refusal} → w ≡ Err why → refused why ≡ operation_numbered sheet x d live i
       unfolding fold_operation asked numbers_among
       operation_stops {why} e = let q : numbers_among sheet x (visit i live) ≡ refused why = stops_is v e in rw q
 
-      pub operation_goes : {u : Walked} {ks : List ℕ} {w' : Visited} {stack' : Live N} {l₂ held' : List ℕ} → w ≡ Ok u → u.scope.depth ≡ d → ks ≡ regions x i
-          → Went w' nv stack' l₂ held' (filled held u.done) (regions_numbered sheet x u.scope.depth (after x live i) ks)
-          → Went w' nv stack' l₂ held' p (operation_numbered sheet x d live i)
+      pub operation_goes : {u : Walked} {ks : List ℕ} {w' : Visited} {d₂ s₂ l₂ held' : List ℕ} → w ≡ Ok u → u.scope.depth ≡ d → ks ≡ regions x i
+          → Went w' nv d₂ s₂ l₂ held' (filled held u.done) (regions_numbered sheet x u.scope.depth (after x live i) ks)
+          → Went w' nv d₂ s₂ l₂ held' p (operation_numbered sheet x d live i)
       unfolding fold_operation valued asked numbers_among
       operation_goes e ed ek v' = went_after v.list (wrote_is v e) (fine_is v e) (rw (ed, ek) at v')
 
 -- ---- rolled back
 
-pub back_to : {u scope : Scope} {nv n N : ℕ} {stack stack₀ : Live N} {live live₀ : List ℕ} → u ≡ scope → Holds nv stack n live → Begins live₀ live
-    → Holds nv stack₀ scope.next live₀ → Holds nv stack u.next live₀
-back_to {nv = nv} {stack = stack} {live₀ = live₀} e h p g = subst (λ (z : Scope). Holds nv stack z.next live₀) (sym e) (holds_back h p g)
+pub back_to : {u scope : Scope} {nv n : ℕ} {d s d₀ s₀ live live₀ : List ℕ} → u ≡ scope → Shows nv d s n live → Begins live₀ live
+    → Shows nv d₀ s₀ scope.next live₀ → Shows nv d s u.next live₀
+back_to {nv = nv} {d = d} {s = s} {live₀ = live₀} e h p g = subst (λ (z : Scope). Shows nv d s z.next live₀) (sym e) (rolled h p g)
+
+-- ---- a step of the stack, whose count of values was read from the tables
+
+pub by_count : {nv nv' n n' : ℕ} {d s d' s' live : List ℕ} (seen : ℕ → List ℕ) → nv' ≡ nv → (Shows nv' d s n live → Shows nv' d' s' n' (seen nv'))
+    → Shows nv d s n live → Shows nv d' s' n' (seen nv)
+by_count {n = n} {n' = n'} {d = d} {s = s} {d' = d'} {s' = s'} {live = live} seen e step h =
+    subst (λ (m : ℕ). Shows m d' s' n' (seen m)) e (step (subst (λ (m : ℕ). Shows m d s n live) (sym e) h))

@@ -11,8 +11,7 @@ use Rattle.nesting.specs.Live.{result_values, valued}
 use Rattle.nesting.specs.Numbering.{Listing, fine, refused, join, counted, values_there}
 use Rattle.nesting.specs.Direct.{look_up, numbers_among}
 use Rattle.nesting.specs.Ask.{listings, all, of_first, fold_operation, fold_block, fold_region}
-use Rattle.scope.specs.Stack.{see_all, Holds}
-use Rattle.scope.specs.declared.Live.{Live}
+use Rattle.scope.specs.Stack.{see_all, Shows}
 use Rattle.tables.specs.declared.Refusal.{Refusal}
 use Rattle.numbering_walk.specs.declared.Walked.{Walked}
 
@@ -74,9 +73,9 @@ Level (Ok w) d = w.scope.depth ≡ d
 Level (Err r) d = Unit
 
 -- its stack shows what is live
-abbrev pub Stands : Visited → ℕ → {N : ℕ} → Live N → List ℕ → Type 0
-Stands (Ok w) nv stack live = Holds nv stack w.scope.next live
-Stands (Err r) nv stack live = Unit
+abbrev pub Stands : Visited → ℕ → List ℕ → List ℕ → List ℕ → Type 0
+Stands (Ok w) nv dense sparse live = Shows nv dense sparse w.scope.next live
+Stands (Err r) nv dense sparse live = Unit
 
 -- and so many numbers are written
 abbrev pub Reached : Visited → List ℕ → Filled → Type 0
@@ -84,8 +83,8 @@ Reached (Ok w) held p = filled held w.done ≡ p
 Reached (Err r) held p = Unit
 
 -- a visit that began at p numbers a, and where that is fine its list is written and `live` is live after it
-pub record Went (w : Visited) (nv : ℕ) {N : ℕ} (stack : Live N) (live held : List ℕ) (p : Filled) (a : Listing ℕ) : Type 0 where
+pub record Went (w : Visited) (nv : ℕ) (dense sparse live held : List ℕ) (p : Filled) (a : Listing ℕ) : Type 0 where
   pub list : List ℕ
   pub answer : told w list ≡ a
-  pub stands : Stands w nv stack live
+  pub stands : Stands w nv dense sparse live
   pub wrote : Reached w held (push_all p list)

@@ -1,16 +1,16 @@
 // Codes 8, 6 and 7 along one entry walk: the numbers of its operands, in walk order.
 #![tactic(auto)]
 
-ghost use Rattle.std.specs.Prelude.{◌≡◌, List, [], ℕ, length};
+ghost use Rattle.std.specs.Prelude.{◌≡◌, List, [], ℕ, ◌≤◌, length};
 ghost use Rattle.tables.specs.Sheet.{fixed_count_in};
-ghost use Rattle.tables.specs.Tables.{opcode, result_types};
+ghost use Rattle.tables.specs.Tables.{lent, opcode, result_types};
 ghost use Rattle.walk.specs.Written.{filled, push};
 ghost use Rattle.nesting.specs.Numbering.{counted, values_there};
 ghost use Rattle.nesting.specs.Direct.{look_up};
-ghost use Rattle.scope.specs.Stack.{Holds};
+ghost use Rattle.scope.specs.Stack.{Shows};
 ghost use Rattle.numbering_walk.specs.Walk.{Tells, Level, Went, judged, asked, after, region_numbered, block_numbered, operation_numbered, regions_numbered, function_numbered};
 
-use scope::{Live, Scope};
+use scope::Scope;
 use tables::{Answer, Refusal, Tables};
 use values::Claims;
 
@@ -34,20 +34,21 @@ fn push_number(numbers: &mut [u64], done: u64, number: u64) -> u64
 
 // Each visit answers with where the walk stands after it, or with the first refusal.
 // The number of each operand of the operation, or the first that has none.
-fn look_up<const N: usize>(
-    stack: &Live<N>,
+fn look_up(
+    dense: &[u64],
+    sparse: &[u64],
     numbers: &mut [u64],
     from: Walked,
     operation: u64,
     operands: &[u64],
 ) -> Result<Walked, Refusal>
     ensures level { Level result from.scope.depth }
-    ensures by_index { (nv : ℕ) (live : List ℕ) → Holds nv stack.now from.scope.next live → Went result nv stack.now live numbers.new (filled numbers.old from.done) (look_up live operation 0 operands.now) }
+    ensures by_index { (nv : ℕ) (live : List ℕ) → Shows nv dense.now sparse.now from.scope.next live → Went result nv dense.now sparse.now live numbers.new (filled numbers.old from.done) (look_up live operation 0 operands.now) }
 {
     let next = from.scope.next;
     let mut used = from.done;
     for (k, &v) in operands.iter().enumerate() {
-        let Some(number) = stack.position(next, v) else {
+        let Some(number) = scope::position(dense, sparse, next, v) else {
             return Err(Refusal::NoNumber {
                 operation,
                 operand: k as u64,
@@ -79,15 +80,16 @@ fn check_count(x: &Tables<'_>, sheet: &[u64], id: u64) -> Answer
 }
 
 // The values of the operation's declared results take the next numbers, or the first result that has none.
-fn add_results<const N: usize>(
+fn add_results(
     x: &Tables<'_>,
     claims: &Claims<'_>,
-    stack: &mut Live<N>,
+    dense: &mut [u64],
+    sparse: &mut [u64],
     from: Walked,
     id: u64,
 ) -> Result<Walked, Refusal>
     ensures level { Level result from.scope.depth }
-    ensures went { Tells x.now claims.now.bases.now claims.now.claims.now → (held live : List ℕ) → Holds x.now.counts.values stack.old from.scope.next live → Went result x.now.counts.values stack.new (after x.now live id) held (filled held from.done) (values_there x.now id) }
+    ensures went { (t v a b r f held : List ℕ) → let y = lent t v x.now.o a b r f x.now.l x.now.counts in Tells y claims.now.bases.now claims.now.claims.now → (live : List ℕ) → Shows x.now.counts.values dense.old sparse.old from.scope.next live → Went result x.now.counts.values dense.new sparse.new (after y live id) held (filled held from.done) (values_there y id) }
 {
     let mut s = from.scope;
     for k in 0..x.result_types(id).len() as u64 {
@@ -97,7 +99,7 @@ fn add_results<const N: usize>(
                 result: k,
             });
         };
-        s = stack.add(s, value);
+        s = s.add(dense, sparse, x.counts().values, value);
     }
     Ok(Walked {
         scope: s,
@@ -106,57 +108,60 @@ fn add_results<const N: usize>(
 }
 
 // Operation id: its operands are looked up, its count is compared, then its results take the next numbers.
-fn open_operation<const N: usize>(
+fn open_operation(
     x: &Tables<'_>,
     sheet: &[u64],
     claims: &Claims<'_>,
-    stack: &mut Live<N>,
+    dense: &mut [u64],
+    sparse: &mut [u64],
     numbers: &mut [u64],
     from: Walked,
     id: u64,
 ) -> Result<Walked, Refusal>
     ensures level { Level result from.scope.depth }
-    ensures went { Tells x.now claims.now.bases.now claims.now.claims.now → (live : List ℕ) → Holds x.now.counts.values stack.old from.scope.next live → Went result x.now.counts.values stack.new (after x.now live id) numbers.new (filled numbers.old from.done) (asked sheet.now x.now id live) }
+    ensures went { (t v a b r f : List ℕ) → let y = lent t v x.now.o a b r f x.now.l x.now.counts in Tells y claims.now.bases.now claims.now.claims.now → (live : List ℕ) → Shows x.now.counts.values dense.old sparse.old from.scope.next live → Went result x.now.counts.values dense.new sparse.new (after y live id) numbers.new (filled numbers.old from.done) (asked sheet.now y id live) }
 {
-    let looked = look_up(stack, numbers, from, id, x.operands(id))?;
+    let looked = look_up(dense, sparse, numbers, from, id, x.operands(id))?;
     check_count(x, sheet, id)?;
-    add_results(x, claims, stack, looked, id)
+    add_results(x, claims, dense, sparse, looked, id)
 }
 
 // Regions in order.
 #[cycle(visit_block_visit_operation_visit_region_visit_regions)]
-fn visit_regions<const N: usize>(
+fn visit_regions(
     x: &Tables<'_>,
     sheet: &[u64],
     claims: &Claims<'_>,
-    stack: &mut Live<N>,
+    dense: &mut [u64],
+    sparse: &mut [u64],
     numbers: &mut [u64],
     from: Walked,
     regions: &[u64],
 ) -> Result<Walked, Refusal>
     ensures level { Level result from.scope.depth }
-    ensures went { Tells x.now claims.now.bases.now claims.now.claims.now → (live : List ℕ) → Holds x.now.counts.values stack.old from.scope.next live → Went result x.now.counts.values stack.new live numbers.new (filled numbers.old from.done) (regions_numbered sheet.now x.now from.scope.depth live regions.now) }
+    ensures went { (t v a f : List ℕ) → let y = lent t v x.now.o a x.now.b x.now.r f x.now.l x.now.counts in Tells y claims.now.bases.now claims.now.claims.now → (live : List ℕ) → Shows x.now.counts.values dense.old sparse.old from.scope.next live → Went result x.now.counts.values dense.new sparse.new live numbers.new (filled numbers.old from.done) (regions_numbered sheet.now y from.scope.depth live regions.now) }
 {
     let mut at = from;
     for &region in regions {
-        at = visit_region(x, sheet, claims, stack, numbers, at, region)?;
+        at = visit_region(x, sheet, claims, dense, sparse, numbers, at, region)?;
     }
     Ok(at)
 }
 
 // Region id: its blocks in order, where a depth is left for them.
 #[cycle(visit_block_visit_operation_visit_region_visit_regions)]
-fn visit_region<const N: usize>(
+fn visit_region(
     x: &Tables<'_>,
     sheet: &[u64],
     claims: &Claims<'_>,
-    stack: &mut Live<N>,
+    dense: &mut [u64],
+    sparse: &mut [u64],
     numbers: &mut [u64],
     from: Walked,
     id: u64,
 ) -> Result<Walked, Refusal>
     ensures level { Level result from.scope.depth }
-    ensures went { Tells x.now claims.now.bases.now claims.now.claims.now → (live : List ℕ) → Holds x.now.counts.values stack.old from.scope.next live → Went result x.now.counts.values stack.new live numbers.new (filled numbers.old from.done) (region_numbered sheet.now x.now from.scope.depth live id) }
+    ensures went { (t v a f : List ℕ) → let y = lent t v x.now.o a x.now.b x.now.r f x.now.l x.now.counts in Tells y claims.now.bases.now claims.now.claims.now → (live : List ℕ) → Shows x.now.counts.values dense.old sparse.old from.scope.next live → Went result x.now.counts.values dense.new sparse.new live numbers.new (filled numbers.old from.done) (region_numbered sheet.now y from.scope.depth live id) }
 {
     if from.scope.depth == 0 {
         return Ok(from);
@@ -166,7 +171,7 @@ fn visit_region<const N: usize>(
         done: from.done,
     };
     for &block in x.blocks(id) {
-        at = visit_block(x, sheet, claims, stack, numbers, at, block)?;
+        at = visit_block(x, sheet, claims, dense, sparse, numbers, at, block)?;
     }
     Ok(Walked {
         scope: at.scope.roll_back(from.scope),
@@ -176,24 +181,27 @@ fn visit_region<const N: usize>(
 
 // Block id: its arguments take the next numbers, then its operations in order; its numbers are free again after it.
 #[cycle(visit_block_visit_operation_visit_region_visit_regions)]
-fn visit_block<const N: usize>(
+fn visit_block(
     x: &Tables<'_>,
     sheet: &[u64],
     claims: &Claims<'_>,
-    stack: &mut Live<N>,
+    dense: &mut [u64],
+    sparse: &mut [u64],
     numbers: &mut [u64],
     from: Walked,
     id: u64,
 ) -> Result<Walked, Refusal>
     ensures level { Level result from.scope.depth }
-    ensures went { Tells x.now claims.now.bases.now claims.now.claims.now → (live : List ℕ) → Holds x.now.counts.values stack.old from.scope.next live → Went result x.now.counts.values stack.new live numbers.new (filled numbers.old from.done) (block_numbered sheet.now x.now from.scope.depth live id) }
+    ensures went { (t v a f : List ℕ) → let y = lent t v x.now.o a x.now.b x.now.r f x.now.l x.now.counts in Tells y claims.now.bases.now claims.now.claims.now → (live : List ℕ) → Shows x.now.counts.values dense.old sparse.old from.scope.next live → Went result x.now.counts.values dense.new sparse.new live numbers.new (filled numbers.old from.done) (block_numbered sheet.now y from.scope.depth live id) }
 {
     let mut inside = Walked {
-        scope: stack.add_all(from.scope, x.arguments(id)),
+        scope: from
+            .scope
+            .add_all(dense, sparse, x.counts().values, x.arguments(id)),
         done: from.done,
     };
     for &operation in x.operations(id) {
-        inside = visit_operation(x, sheet, claims, stack, numbers, inside, operation)?;
+        inside = visit_operation(x, sheet, claims, dense, sparse, numbers, inside, operation)?;
     }
     Ok(Walked {
         scope: inside.scope.roll_back(from.scope),
@@ -203,33 +211,44 @@ fn visit_block<const N: usize>(
 
 // Operation id: its operands, count and results, then its regions, where the results are live.
 #[cycle(visit_block_visit_operation_visit_region_visit_regions)]
-fn visit_operation<const N: usize>(
+fn visit_operation(
     x: &Tables<'_>,
     sheet: &[u64],
     claims: &Claims<'_>,
-    stack: &mut Live<N>,
+    dense: &mut [u64],
+    sparse: &mut [u64],
     numbers: &mut [u64],
     from: Walked,
     id: u64,
 ) -> Result<Walked, Refusal>
     ensures level { Level result from.scope.depth }
-    ensures went { Tells x.now claims.now.bases.now claims.now.claims.now → (live : List ℕ) → Holds x.now.counts.values stack.old from.scope.next live → Went result x.now.counts.values stack.new (after x.now live id) numbers.new (filled numbers.old from.done) (operation_numbered sheet.now x.now from.scope.depth live id) }
+    ensures went { (t v a f : List ℕ) → let y = lent t v x.now.o a x.now.b x.now.r f x.now.l x.now.counts in Tells y claims.now.bases.now claims.now.claims.now → (live : List ℕ) → Shows x.now.counts.values dense.old sparse.old from.scope.next live → Went result x.now.counts.values dense.new sparse.new (after y live id) numbers.new (filled numbers.old from.done) (operation_numbered sheet.now y from.scope.depth live id) }
 {
-    let inner = open_operation(x, sheet, claims, stack, numbers, from, id)?;
-    visit_regions(x, sheet, claims, stack, numbers, inner, x.regions(id))
+    let inner = open_operation(x, sheet, claims, dense, sparse, numbers, from, id)?;
+    visit_regions(
+        x,
+        sheet,
+        claims,
+        dense,
+        sparse,
+        numbers,
+        inner,
+        x.regions(id),
+    )
 }
 
 // The entry walk of a function, from number 0: the first block of its first region.
-pub fn visit_function<const N: usize>(
+pub fn visit_function(
     x: &Tables<'_>,
     sheet: &[u64],
     claims: &Claims<'_>,
-    stack: &mut Live<N>,
+    dense: &mut [u64],
+    sparse: &mut [u64],
     numbers: &mut [u64],
     done: u64,
     id: u64,
 ) -> Result<Walked, Refusal>
-    ensures { Tells x.now claims.now.bases.now claims.now.claims.now → Holds x.now.counts.values stack.old 0 [] → Went result x.now.counts.values stack.new [] numbers.new (filled numbers.old done) (function_numbered sheet.now x.now id) }
+    ensures { (t v a f : List ℕ) → let y = lent t v x.now.o a x.now.b x.now.r f x.now.l x.now.counts in Tells y claims.now.bases.now claims.now.claims.now → x.now.counts.values ≤ length dense.old → x.now.counts.values ≤ length sparse.old → Went result x.now.counts.values dense.new sparse.new [] numbers.new (filled numbers.old done) (function_numbered sheet.now y id) }
 {
     let start = Walked {
         scope: Scope {
@@ -244,5 +263,5 @@ pub fn visit_function<const N: usize>(
     let Some(&block) = x.blocks(region).first() else {
         return Ok(start);
     };
-    visit_block(x, sheet, claims, stack, numbers, start, block)
+    visit_block(x, sheet, claims, dense, sparse, numbers, start, block)
 }

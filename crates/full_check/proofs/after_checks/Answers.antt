@@ -35,7 +35,7 @@ returns-in_err-count c =
     let rest = handed (numbering sheet x) (sizes x) p.numbers.now p.lengths.now in
     let r : c.from_residual-in_err-count.result ≡ Err c.in_err-count.field-0.0 = search rules in
     let d = sym (c.after_checks.ensures x.t x.v x.a e claimed) ∙ c.in_ok-after_checks.was in
-    let filled = c.after_checks-2.ensures e claimed (omega (arith, length-replicate {A = ℕ} max_entries 0)) (omega (arith, length-replicate {A = ℕ} max_functions 0)) in
+    let filled = c.after_checks-2.ensures x.t x.v x.a e claimed (omega (arith, length-replicate {A = ℕ} max_entries 0)) (omega (arith, length-replicate {A = ℕ} max_functions 0)) in
     rw r (numbers_stop p.g sheet x rest p.numbers.now p.lengths.now d (numbering_stops (sizes x) _ _ _ _ (numbering sheet x) filled c.in_err-count.was))
 
 pub returns-in_err-over_operations : goal.returns-in_err-over_operations
@@ -47,7 +47,7 @@ returns-in_err-over_operations c =
     let rest = handed (numbering sheet x) (sizes x) p.numbers.now p.lengths.now in
     let r : c.from_residual-in_err-over_operations.result ≡ Err c.in_err-over_operations.field-0.0 = search rules in
     let d = sym (c.after_checks.ensures x.t x.v x.a e claimed) ∙ c.in_ok-after_checks.was in
-    let filled = c.after_checks-2.ensures e claimed (omega (arith, length-replicate {A = ℕ} max_entries 0)) (omega (arith, length-replicate {A = ℕ} max_functions 0)) in
+    let filled = c.after_checks-2.ensures x.t x.v x.a e claimed (omega (arith, length-replicate {A = ℕ} max_entries 0)) (omega (arith, length-replicate {A = ℕ} max_functions 0)) in
     let m = numbering_goes (sizes x) _ _ _ _ (numbering sheet x) filled c.in_ok-count.was in
     let o = ap (λ (is : List ℕ). and_then (capabilities p.g x is) (rules_of p.g.version sheet x is)) (sym q) ∙ sym c.over_operations.ensures ∙ c.in_err-over_operations.was in
     rw r (over_stops p.g sheet x rest p.numbers.now p.lengths.now d m o)
@@ -60,7 +60,7 @@ returns c =
     let sheet = p.sheet.now in
     let rest = handed (numbering sheet x) (sizes x) p.numbers.now p.lengths.now in
     let d = sym (c.after_checks.ensures x.t x.v x.a e claimed) ∙ c.in_ok-after_checks.was in
-    let filled = c.after_checks-2.ensures e claimed (omega (arith, length-replicate {A = ℕ} max_entries 0)) (omega (arith, length-replicate {A = ℕ} max_functions 0)) in
+    let filled = c.after_checks-2.ensures x.t x.v x.a e claimed (omega (arith, length-replicate {A = ℕ} max_entries 0)) (omega (arith, length-replicate {A = ℕ} max_functions 0)) in
     let m = numbering_goes (sizes x) _ _ _ _ (numbering sheet x) filled c.in_ok-count.was in
     let o = ap (λ (is : List ℕ). and_then (capabilities p.g x is) (rules_of p.g.version sheet x is)) (sym q) ∙ sym c.over_operations.ensures ∙ c.in_ok-over_operations.was in
     list_handed (numbering sheet x) (sizes x) _ _ _ _ p.numbers.now p.lengths.now filled c.in_ok-count.was (sizes_long x e) (rw c.counts.ensures at c.hand_over.ensures)

@@ -26,7 +26,7 @@ returns-in_err-count c =
     let h = c.check_with_sheet.ensures in
     let passed = fine_is _ _ c.in_ok-check_with_sheet.was h.0 in
     let filled =
-    c.after_checks.ensures (tables_pass a.sheet.now x passed) (h.1 passed (refl, refl)) (omega (arith, length-replicate {A = ℕ} max_entries 0))
+    c.after_checks.ensures x.t x.v x.a (tables_pass a.sheet.now x passed) (h.1 passed (refl, refl)) (omega (arith, length-replicate {A = ℕ} max_entries 0))
     (omega (arith, length-replicate {A = ℕ} max_functions 0)) in
     let p = err_from_is_err_and c.from_residual-in_err-count.result c.from_residual-in_err-count.ensures.1 in
     rw (p.1, p.2)
@@ -40,7 +40,7 @@ returns c =
     let h = c.check_with_sheet.ensures in
     let passed = fine_is _ _ c.in_ok-check_with_sheet.was h.0 in
     let filled =
-    c.after_checks.ensures (tables_pass a.sheet.now x passed) (h.1 passed (refl, refl)) (omega (arith, length-replicate {A = ℕ} max_entries 0))
+    c.after_checks.ensures x.t x.v x.a (tables_pass a.sheet.now x passed) (h.1 passed (refl, refl)) (omega (arith, length-replicate {A = ℕ} max_entries 0))
     (omega (arith, length-replicate {A = ℕ} max_functions 0)) in
     list_handed (numbering a.sheet.now x) (sizes x) _ _ _ _ a.numbers.now a.lengths.now filled c.in_ok-count.was (sizes_long x (tables_pass a.sheet.now x passed) ∙ sym (ap (λ (n : Counts). n.functions) c.counts.ensures))
     c.hand_over.ensures

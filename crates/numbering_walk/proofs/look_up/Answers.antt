@@ -6,12 +6,12 @@ use Rattle.numbering_walk.proofs.Operation.{look_more, look_stop, look_end}
 use Rattle.numbering_walk.proofs.look_up.Goals as goal
 
 pub returns-in_default-clause-by_index : goal.returns-in_default-clause-by_index
-returns-in_default-clause-by_index g c = λ nv live h.
-    stopped (look_stop (c.loop-k.invariant nv live h) c.loop-k-test.true (sym (c.position.ensures nv live h.shown) ∙ ap number_in c.in_default.is))
+returns-in_default-clause-by_index c = λ nv live h.
+    stopped (look_stop (c.loop-k.invariant nv live h) c.loop-k-test.true (sym (c.position.ensures nv live h) ∙ ap number_in c.in_default.is))
 
 pub loop-k-preserved : goal.loop-k-preserved
-loop-k-preserved g c = λ nv live h.
-    look_more (c.loop-k.invariant nv live h) c.loop-k-test.true (sym (c.position.ensures nv live h.shown) ∙ ap number_in c.in-Some.is) c.push_number-used.ensures
+loop-k-preserved c = λ nv live h.
+    look_more (c.loop-k.invariant nv live h) c.loop-k-test.true (sym (c.position.ensures nv live h) ∙ ap number_in c.in-Some.is) c.push_number-used.ensures
 
 pub returns-clause-by_index : goal.returns-clause-by_index
-returns-clause-by_index g c = λ nv live h. look_end (c.loop-k.invariant nv live h) c.loop-k-test.false h
+returns-clause-by_index c = λ nv live h. look_end (c.loop-k.invariant nv live h) c.loop-k-test.false h
