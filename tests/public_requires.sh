@@ -5,7 +5,7 @@ found=$(awk '
     /^[ \t]*pub (extern "C" )?fn / { name = $0; sub(/\(.*/, "", name); sub(/.*fn /, "", name); sub(/<.*/, "", name) }
     name != "" && /^[ \t]*requires/ { print FILENAME ": " name; name = "" }
     /^\{/ || /^    \{$/ { name = "" }
-' $(find crates -path '*/src/*.rt'))
+' $(find crates -path '*/out' -prune -o -path '*/src/*.rt' -print))
 bad=0
 for f in $(printf '%s\n' "$found" | sed 's/.*: //'); do
     grep -q "\`$f\` has a requires" docs/DECISIONS.md || { echo "$f has a requires and docs/DECISIONS.md does not name it"; bad=1; }
