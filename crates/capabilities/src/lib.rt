@@ -30,7 +30,7 @@ pub fn ask(g: Target, operation: u64, asked: Option<u64>) -> Answer
 
 // What an attribute of an operation asks for.
 #[tactic(auto, unfolding(crate::specs::Ask::attribute_asked))]
-fn attribute_asked(x: &Tables<'_>, operation: u64, attribute: u64) -> Option<u64>
+fn attribute_asked(x: &Tables<'_, '_, '_>, operation: u64, attribute: u64) -> Option<u64>
     ensures { result ≡ attribute_asked x.now operation attribute }
 {
     requirements::attribute_feature(
@@ -43,7 +43,7 @@ fn attribute_asked(x: &Tables<'_>, operation: u64, attribute: u64) -> Option<u64
 
 // The attributes of an operation, in order.
 #[tactic(auto, using(crate::proofs::Rows::each_row, crate::proofs::Rows::each_end))]
-fn ask_attributes(g: Target, x: &Tables<'_>, operation: u64) -> Answer
+fn ask_attributes(g: Target, x: &Tables<'_, '_, '_>, operation: u64) -> Answer
     ensures { result ≡ each (attribute_asks g x.now operation) (attributes x.now operation) }
 {
     let span = x.attributes(operation);
@@ -74,7 +74,7 @@ impl Asked {
 
     // What the target says to a type's element kind: a token has none.
     #[tactic(auto, using(crate::proofs::Marks::any_operation), unfolding(crate::specs::Ask::ask, crate::specs::Ask::kind_asked))]
-    fn ask_kind(&self, x: &Tables<'_>, operation: u64, id: u64) -> Answer
+    fn ask_kind(&self, x: &Tables<'_, '_, '_>, operation: u64, id: u64) -> Answer
         ensures { result ≡ ask self.now.g operation (kind_asked x.now id) }
     {
         if x.type_form(id) == 0 {
@@ -88,7 +88,7 @@ impl Asked {
     }
 
     // The kinds of an operation's operands, in order.
-    fn ask_operands(&self, x: &Tables<'_>, operation: u64, operands: &[u64]) -> Answer
+    fn ask_operands(&self, x: &Tables<'_, '_, '_>, operation: u64, operands: &[u64]) -> Answer
         ensures { result ≡ each (operand_asks self.now.g x.now operation) operands.now }
     {
         for &operand in operands {
@@ -98,7 +98,7 @@ impl Asked {
     }
 
     // The kinds of an operation's results, in order.
-    fn ask_results(&self, x: &Tables<'_>, operation: u64, types: &[u64]) -> Answer
+    fn ask_results(&self, x: &Tables<'_, '_, '_>, operation: u64, types: &[u64]) -> Answer
         ensures { result ≡ each (result_asks self.now.g x.now operation) types.now }
     {
         for &id in types {
@@ -109,7 +109,7 @@ impl Asked {
 
     // All that an operation asks for: its opcode, its attributes, the kinds of its operands, then of its results.
     #[tactic(auto, unfolding(crate::specs::Ask::operation_asks))]
-    fn operation_asks(&self, x: &Tables<'_>, operation: u64) -> Answer
+    fn operation_asks(&self, x: &Tables<'_, '_, '_>, operation: u64) -> Answer
         ensures { result ≡ operation_asks self.now.g x.now operation }
     {
         let asked = requirements::opcode_requirement(x.opcode(operation));
@@ -122,7 +122,7 @@ impl Asked {
 
 // What the target asks for itself, then what the operations do, in the order given.
 #[tactic(auto, unfolding(crate::specs::Ask::capabilities))]
-pub fn check_capabilities(g: Target, x: &Tables<'_>, order: &[u64]) -> Answer
+pub fn check_capabilities(g: Target, x: &Tables<'_, '_, '_>, order: &[u64]) -> Answer
     ensures { result ≡ capabilities g x.now order.now }
 {
     ask(g, 0, requirements::target_requirement(g.sm))?;

@@ -7,7 +7,7 @@ ghost use Rattle.capability_check.specs.Alone.{capabilities_alone};
 use cells::Span;
 use tables::{Answer, Tables, Target};
 
-pub fn check_alone(g: Target, x: &Tables<'_>) -> Answer
+pub fn check_alone(g: Target, x: &Tables<'_, '_, '_>) -> Answer
     ensures { result ≡ capabilities_alone g x.now }
 {
     table_checks::check_target(g)?;

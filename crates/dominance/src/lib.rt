@@ -40,7 +40,7 @@ fn judge_operands<const N: usize>(
 
 // The values of the operation's declared results, of those that have one.
 fn add_results<const N: usize>(
-    x: &Tables<'_>,
+    x: &Tables<'_, '_, '_>,
     claims: &Claims<'_>,
     stack: &mut Live<N>,
     scope: Scope,
@@ -61,7 +61,7 @@ fn add_results<const N: usize>(
 // Each visit answers with the scope after it, or the first operand that is not visible.
 // Operation id: its operands, then its results.
 fn open_operation<const N: usize>(
-    x: &Tables<'_>,
+    x: &Tables<'_, '_, '_>,
     claims: &Claims<'_>,
     stack: &mut Live<N>,
     scope: Scope,
@@ -77,7 +77,7 @@ fn open_operation<const N: usize>(
 // Regions in order.
 #[cycle(visit_block_visit_operation_visit_region_visit_regions)]
 fn visit_regions<const N: usize>(
-    x: &Tables<'_>,
+    x: &Tables<'_, '_, '_>,
     claims: &Claims<'_>,
     stack: &mut Live<N>,
     scope: Scope,
@@ -96,7 +96,7 @@ fn visit_regions<const N: usize>(
 // Region id: its blocks in order, where a depth is left for them.
 #[cycle(visit_block_visit_operation_visit_region_visit_regions)]
 fn visit_region<const N: usize>(
-    x: &Tables<'_>,
+    x: &Tables<'_, '_, '_>,
     claims: &Claims<'_>,
     stack: &mut Live<N>,
     scope: Scope,
@@ -118,7 +118,7 @@ fn visit_region<const N: usize>(
 // Block id: its arguments, then its operations in order; what it added is rolled back.
 #[cycle(visit_block_visit_operation_visit_region_visit_regions)]
 fn visit_block<const N: usize>(
-    x: &Tables<'_>,
+    x: &Tables<'_, '_, '_>,
     claims: &Claims<'_>,
     stack: &mut Live<N>,
     scope: Scope,
@@ -137,7 +137,7 @@ fn visit_block<const N: usize>(
 // Operation id: its operands and its results, then its regions, where the results are live.
 #[cycle(visit_block_visit_operation_visit_region_visit_regions)]
 fn visit_operation<const N: usize>(
-    x: &Tables<'_>,
+    x: &Tables<'_, '_, '_>,
     claims: &Claims<'_>,
     stack: &mut Live<N>,
     scope: Scope,
@@ -152,7 +152,7 @@ fn visit_operation<const N: usize>(
 
 // A function operation: its regions, where nothing is live yet.
 fn visit_function<const N: usize>(
-    x: &Tables<'_>,
+    x: &Tables<'_, '_, '_>,
     claims: &Claims<'_>,
     stack: &mut Live<N>,
     id: u64,
@@ -168,7 +168,7 @@ fn visit_function<const N: usize>(
 
 // The functions in order.
 fn visit_functions<const N: usize>(
-    x: &Tables<'_>,
+    x: &Tables<'_, '_, '_>,
     claims: &Claims<'_>,
     stack: &mut Live<N>,
 ) -> Answer
@@ -181,7 +181,7 @@ fn visit_functions<const N: usize>(
 }
 
 // For a caller that has asked 1 to 4 and hands on the claims: a small stack is soon cleared.
-pub fn after_checks(x: &Tables<'_>, claims: &Claims<'_>) -> Answer
+pub fn after_checks(x: &Tables<'_, '_, '_>, claims: &Claims<'_>) -> Answer
     ensures { (t v a : List ℕ) → let y = lent t v x.now.o a x.now.b x.now.r x.now.f x.now.l x.now.counts in table_checks y ≡ Ok tt → Filled y claims.now.bases.now claims.now.claims.now → result ≡ visibleAll y }
 {
     let values = x.counts().values;
@@ -195,7 +195,7 @@ pub fn after_checks(x: &Tables<'_>, claims: &Claims<'_>) -> Answer
 }
 
 // The first operand that is not visible, after 1 to 4.
-pub fn dominance(x: &Tables<'_>) -> Answer
+pub fn dominance(x: &Tables<'_, '_, '_>) -> Answer
     ensures { result ≡ dominance_alone x.now }
 {
     let mut bases = [0; 2048];

@@ -17,7 +17,7 @@ use tables::{Answer, Refusal, Tables, Target};
 use values::Claims;
 
 // Version and architecture of every operation, then the rules of every operation.
-fn over_operations(g: Target, x: &Tables<'_>, sheet: &[u64], order: &[u64]) -> Answer
+fn over_operations(g: Target, x: &Tables<'_, '_, '_>, sheet: &[u64], order: &[u64]) -> Answer
     ensures { result ≡ and_then (capabilities g x.now order.now) (rules g.version sheet.now x.now order.now) }
 {
     capabilities::check_capabilities(g, x, order)?;
@@ -27,7 +27,7 @@ fn over_operations(g: Target, x: &Tables<'_>, sheet: &[u64], order: &[u64]) -> A
 // The parts, for a caller that has asked 16 and 1 to 4 and hands on the walk order and the claims.
 fn after_checks(
     g: Target,
-    x: &Tables<'_>,
+    x: &Tables<'_, '_, '_>,
     sheet: &[u64],
     order: &[u64],
     claims: &Claims<'_>,
@@ -47,7 +47,7 @@ fn after_checks(
 // The full check: the first refusal, which changes no lent byte, or how many numbers are written, with how many each function has.
 pub fn check(
     g: Target,
-    x: &Tables<'_>,
+    x: &Tables<'_, '_, '_>,
     sheet: &[u64],
     numbers: &mut [u64],
     lengths: &mut [u64],

@@ -100,14 +100,14 @@ pub fn alone(rt: &HostRuntime, part: Part, sheet_text: &[u8], text: &[u8]) -> io
 }
 
 // 16, then 1 to 4.
-fn tables_alone(g: Target, x: &Tables<'_>) -> Answer {
+fn tables_alone(g: Target, x: &Tables<'_, '_, '_>) -> Answer {
     table_checks::check_target(g)?;
     // Neither the walk order nor the claims are asked for.
     table_checks::check_tables(x, &mut [], &mut [], &mut [])?;
     Ok(())
 }
 
-fn numbering_alone(rt: &HostRuntime, x: &Tables<'_>, sheet: &[u64]) -> io::Result<()> {
+fn numbering_alone(rt: &HostRuntime, x: &Tables<'_, '_, '_>, sheet: &[u64]) -> io::Result<()> {
     let mut numbers = [0u64; 8192];
     let mut lengths = [0u64; 64];
     let answer = numbering::numbering(x, sheet, &mut numbers, &mut lengths);
@@ -135,7 +135,12 @@ pub fn read_back(rt: &HostRuntime, text: &[u8], list: &[u8]) -> io::Result<()> {
     }
 }
 
-fn of_lists(rt: &HostRuntime, x: &Tables<'_>, numbers: &[u64], lengths: &[u64]) -> io::Result<()> {
+fn of_lists(
+    rt: &HostRuntime,
+    x: &Tables<'_, '_, '_>,
+    numbers: &[u64],
+    lengths: &[u64],
+) -> io::Result<()> {
     let mut places = [0u64; 24576];
     let answer = number_lists::read_lists(
         x.operation_cells(),

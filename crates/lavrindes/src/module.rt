@@ -42,7 +42,7 @@ impl Module {
         )
     }
 
-    pub fn tables(&self, counts: Counts) -> Tables<'_> {
+    pub fn tables(&self, counts: Counts) -> Tables<'_, '_, '_> {
         Tables::new(
             &self.types,
             &self.values,

@@ -46,7 +46,7 @@ pub fn mark_lists<'a, F: Fn(u64) -> &'a [u64]>(count: u64, list: F, marks: &mut 
 }
 
 // One more of each function's operation.
-fn mark_functions(x: &Tables<'_>, marks: &mut [u64])
+fn mark_functions(x: &Tables<'_, '_, '_>, marks: &mut [u64])
     ensures { marks.new ≡ mark_all marks.old (functions x.now) }
 {
     for &id in x.functions() {
@@ -68,7 +68,7 @@ fn lowest_marked(marks: &[u64], n: u64, list: u64) -> Answer
 }
 
 // An operation that functions and blocks list twice.
-fn twice_operations(x: &Tables<'_>) -> Answer
+fn twice_operations(x: &Tables<'_, '_, '_>) -> Answer
     ensures { result ≡ refused 0 (lowest_seen 2048 (listed_operations x.now) x.now.counts.operations) }
 {
     let mut marks = [0u64; 2048];
@@ -89,7 +89,7 @@ fn twice_listed<'a, F: Fn(u64) -> &'a [u64]>(count: u64, list: F, ids: u64, kind
 
 // What is listed twice: operations before blocks before regions, the lowest id.
 #[tactic(auto, using(crate::proofs::Marks::seen_is), unfolding(crate::specs::Twice::listed_twice))]
-pub fn listed_twice(x: &Tables<'_>) -> Answer
+pub fn listed_twice(x: &Tables<'_, '_, '_>) -> Answer
     ensures { result ≡ listed_twice (cut x.now) }
 {
     let x = x.cut();

@@ -72,14 +72,14 @@ fn is_taken(wanted: Wanted, form: u64, first: u64) -> bool
 }
 
 // The first number of an attribute.
-fn first_number(x: &Tables<'_>, attribute: u64) -> u64
+fn first_number(x: &Tables<'_, '_, '_>, attribute: u64) -> u64
     ensures { result ≡ first_in x.now.a x.now.l x.now.counts attribute }
 {
     cells::at(x.attribute_numbers(attribute), 0)
 }
 
 // The attribute has this name and is as wanted.
-fn is_entry(x: &Tables<'_>, attribute: u64, name: u64, wanted: Wanted) -> bool
+fn is_entry(x: &Tables<'_, '_, '_>, attribute: u64, name: u64, wanted: Wanted) -> bool
     ensures { result ≡ is_entry x.now.a x.now.l x.now.counts name wanted attribute }
 {
     x.attribute_name(attribute) == name
@@ -91,7 +91,7 @@ fn is_entry(x: &Tables<'_>, attribute: u64, name: u64, wanted: Wanted) -> bool
 }
 
 // The first attribute of an operation with this name that is as wanted.
-pub fn find(x: &Tables<'_>, operation: u64, name: u64, wanted: Wanted) -> Option<u64>
+pub fn find(x: &Tables<'_, '_, '_>, operation: u64, name: u64, wanted: Wanted) -> Option<u64>
     ensures { result ≡ entry_of x.now operation name wanted }
 {
     let span = x.attributes(operation);
@@ -99,7 +99,7 @@ pub fn find(x: &Tables<'_>, operation: u64, name: u64, wanted: Wanted) -> Option
 }
 
 // The 64 bits of an operation's integer of this name.
-pub fn integer(x: &Tables<'_>, operation: u64, name: u64) -> Option<u64>
+pub fn integer(x: &Tables<'_, '_, '_>, operation: u64, name: u64) -> Option<u64>
     ensures { result ≡ integer_of x.now operation name }
 {
     let k = find(x, operation, name, Wanted::Integer)?;
@@ -107,14 +107,14 @@ pub fn integer(x: &Tables<'_>, operation: u64, name: u64) -> Option<u64>
 }
 
 // The attribute that holds the axes of an operation's permutation.
-pub fn permutation(x: &Tables<'_>, operation: u64) -> Option<u64>
+pub fn permutation(x: &Tables<'_, '_, '_>, operation: u64) -> Option<u64>
     ensures { result ≡ permutation_of x.now operation }
 {
     find(x, operation, names::PERMUTATION, Wanted::Permutation)
 }
 
 // Where an operation's segment sizes stand, and whether they are integers.
-pub fn segments(x: &Tables<'_>, operation: u64) -> SegmentSizes
+pub fn segments(x: &Tables<'_, '_, '_>, operation: u64) -> SegmentSizes
     ensures { result ≡ segments_of x.now operation }
 {
     match find(x, operation, names::OPERAND_SEGMENT_SIZES, Wanted::Array) {
@@ -125,7 +125,7 @@ pub fn segments(x: &Tables<'_>, operation: u64) -> SegmentSizes
 }
 
 // The size of a segment, where the sizes are integers and there are so many.
-pub fn segment(x: &Tables<'_>, operation: u64, position: u64) -> Option<u64>
+pub fn segment(x: &Tables<'_, '_, '_>, operation: u64, position: u64) -> Option<u64>
     ensures { result ≡ segment_of x.now operation position }
 {
     match segments(x, operation) {
@@ -135,14 +135,14 @@ pub fn segment(x: &Tables<'_>, operation: u64, position: u64) -> Option<u64>
 }
 
 // Some flush_to_zero of an operation is anything but a false bool.
-pub fn flushes(x: &Tables<'_>, operation: u64) -> bool
+pub fn flushes(x: &Tables<'_, '_, '_>, operation: u64) -> bool
     ensures { result ≡ flushes x.now operation }
 {
     find(x, operation, names::FLUSH_TO_ZERO, Wanted::NotFalse).is_some()
 }
 
 // The type of an operation's operand k.
-pub fn operand_type(x: &Tables<'_>, operation: u64, k: u64) -> Option<u64>
+pub fn operand_type(x: &Tables<'_, '_, '_>, operation: u64, k: u64) -> Option<u64>
     ensures { result ≡ operand_type x.now operation k }
 {
     let value = x.operands(operation).get(k as usize)?;
@@ -150,7 +150,7 @@ pub fn operand_type(x: &Tables<'_>, operation: u64, k: u64) -> Option<u64>
 }
 
 // The type of an operation's first result.
-pub fn result_type(x: &Tables<'_>, operation: u64) -> Option<u64>
+pub fn result_type(x: &Tables<'_, '_, '_>, operation: u64) -> Option<u64>
     ensures { result ≡ result_type x.now operation }
 {
     x.result_types(operation).first().copied()
@@ -158,7 +158,7 @@ pub fn result_type(x: &Tables<'_>, operation: u64) -> Option<u64>
 
 // The cells of a type that is a tile; none where there is no type. An arm that asks no dims takes the tile of these by itself: it is then not
 // built whole.
-pub fn row_by<'a>(x: &Tables<'a>, sheet: &[u64], typed: Option<u64>) -> &'a [u64]
+pub fn row_by<'t>(x: &Tables<'_, 't, '_>, sheet: &[u64], typed: Option<u64>) -> &'t [u64]
     ensures { result.now ≡ row_by x.now.t sheet.now x.now.counts typed }
 {
     match typed {
@@ -168,21 +168,27 @@ pub fn row_by<'a>(x: &Tables<'a>, sheet: &[u64], typed: Option<u64>) -> &'a [u64
 }
 
 // The tile of an operation's operand k.
-pub fn operand_tile(x: &Tables<'_>, sheet: &[u64], operation: u64, k: u64) -> Tile
+pub fn operand_tile(x: &Tables<'_, '_, '_>, sheet: &[u64], operation: u64, k: u64) -> Tile
     ensures { result ≡ operand_tile sheet.now x.now operation k }
 {
     tiles::tile_of(row_by(x, sheet, operand_type(x, operation, k)))
 }
 
 // The tile of an operation's first result.
-pub fn result_tile(x: &Tables<'_>, sheet: &[u64], operation: u64) -> Tile
+pub fn result_tile(x: &Tables<'_, '_, '_>, sheet: &[u64], operation: u64) -> Tile
     ensures { result ≡ result_tile sheet.now x.now operation }
 {
     tiles::tile_of(row_by(x, sheet, result_type(x, operation)))
 }
 
 // Operand k is a tile of numbers of this kind.
-pub fn operand_has_kind(x: &Tables<'_>, sheet: &[u64], operation: u64, k: u64, kind: u64) -> bool
+pub fn operand_has_kind(
+    x: &Tables<'_, '_, '_>,
+    sheet: &[u64],
+    operation: u64,
+    k: u64,
+    kind: u64,
+) -> bool
     ensures { result ≡ has_kind (operand_tile sheet.now x.now operation k) kind }
 {
     let row = row_by(x, sheet, operand_type(x, operation, k));

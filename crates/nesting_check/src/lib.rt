@@ -9,21 +9,21 @@ use tables::{Answer, Tables};
 
 // What there is to nest of an operation, its regions, and of a block, its operations.
 #[tactic(auto, unfolding(crate::specs::Checks::nested_operation, tables::specs::Layout::regions_in))]
-fn nested_operation(x: &Tables<'_>, id: u64) -> bool
+fn nested_operation(x: &Tables<'_, '_, '_>, id: u64) -> bool
     ensures { result ≡ nested_operation x.now id }
 {
     ranges::good_list(x, x.regions_span(id), x.counts().regions)
 }
 
 #[tactic(auto, unfolding(crate::specs::Checks::nested_block, tables::specs::Layout::operations_in))]
-fn nested_block(x: &Tables<'_>, id: u64) -> bool
+fn nested_block(x: &Tables<'_, '_, '_>, id: u64) -> bool
     ensures { result ≡ nested_block x.now id }
 {
     ranges::good_list(x, x.operations_span(id), x.counts().operations)
 }
 
 // Code 1 for operations, blocks, regions and functions.
-fn check_ranges(x: &Tables<'_>) -> Answer
+fn check_ranges(x: &Tables<'_, '_, '_>) -> Answer
     ensures { result ≡ nesting_ranges x.now }
 {
     let used = Pass::operations(x).scan(
@@ -46,7 +46,7 @@ fn check_ranges(x: &Tables<'_>) -> Answer
 
 // Codes 1, 2 and 3 of the nesting.
 #[tactic(auto, using(crate::proofs::Turns::listed_same), unfolding(crate::specs::Checks::nesting_checks))]
-pub fn check_nesting(x: &Tables<'_>) -> Answer
+pub fn check_nesting(x: &Tables<'_, '_, '_>) -> Answer
     ensures { result ≡ nesting_checks x.now }
 {
     check_ranges(x)?;

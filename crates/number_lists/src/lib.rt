@@ -33,7 +33,7 @@ fn nest<'a>(
     f: &'a [u32],
     l: &'a [u64],
     n: Counts,
-) -> Tables<'a>
+) -> Tables<'a, 'a, 'a>
     ensures { result ≡ nest o.now b.now r.now f.now l.now n }
 {
     Tables::new(&[], &[], o, &[], b, r, f, l, n)

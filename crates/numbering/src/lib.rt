@@ -22,7 +22,7 @@ const FEW_VALUES: u64 = 512;
 // Each answers with how many numbers are written, or with the first refusal.
 // The functions in order; how many numbers each has goes to lengths.
 fn visit_functions(
-    x: &Tables<'_>,
+    x: &Tables<'_, '_, '_>,
     sheet: &[u64],
     claims: &Claims<'_>,
     dense: &mut [u64],
@@ -48,7 +48,7 @@ fn visit_functions(
 // The functions over a stack of their own, where 1 to 4 passed, the cells hold the claims and room is lent for every list: a small
 // stack is soon cleared.
 fn visit_all(
-    x: &Tables<'_>,
+    x: &Tables<'_, '_, '_>,
     sheet: &[u64],
     claims: &Claims<'_>,
     numbers: &mut [u64],
@@ -84,7 +84,7 @@ fn visit_all(
 
 // For a caller that has asked 1 to 4, hands on the claims and lends room for every list; a refusal leaves both lists all zero.
 pub fn after_checks(
-    x: &Tables<'_>,
+    x: &Tables<'_, '_, '_>,
     sheet: &[u64],
     claims: &Claims<'_>,
     numbers: &mut [u64],
@@ -137,7 +137,7 @@ pub fn hand_over(
 
 // The numbers and how many each function has, where both lists have room; a refusal changes neither.
 pub fn numbering(
-    x: &Tables<'_>,
+    x: &Tables<'_, '_, '_>,
     sheet: &[u64],
     numbers: &mut [u64],
     lengths: &mut [u64],

@@ -63,7 +63,7 @@ fn look_up(
 }
 
 // The operation's number of results against the sheet's, where the sheet fixes one.
-fn check_count(x: &Tables<'_>, sheet: &[u64], id: u64) -> Answer
+fn check_count(x: &Tables<'_, '_, '_>, sheet: &[u64], id: u64) -> Answer
     ensures { judged result ≡ counted (fixed_count_in sheet.now (opcode x.now id)) id (length (result_types x.now id)) }
 {
     let count = x.result_types(id).len() as u64;
@@ -81,7 +81,7 @@ fn check_count(x: &Tables<'_>, sheet: &[u64], id: u64) -> Answer
 
 // The values of the operation's declared results take the next numbers, or the first result that has none.
 fn add_results(
-    x: &Tables<'_>,
+    x: &Tables<'_, '_, '_>,
     claims: &Claims<'_>,
     dense: &mut [u64],
     sparse: &mut [u64],
@@ -109,7 +109,7 @@ fn add_results(
 
 // Operation id: its operands are looked up, its count is compared, then its results take the next numbers.
 fn open_operation(
-    x: &Tables<'_>,
+    x: &Tables<'_, '_, '_>,
     sheet: &[u64],
     claims: &Claims<'_>,
     dense: &mut [u64],
@@ -129,7 +129,7 @@ fn open_operation(
 // Regions in order.
 #[cycle(visit_block_visit_operation_visit_region_visit_regions)]
 fn visit_regions(
-    x: &Tables<'_>,
+    x: &Tables<'_, '_, '_>,
     sheet: &[u64],
     claims: &Claims<'_>,
     dense: &mut [u64],
@@ -151,7 +151,7 @@ fn visit_regions(
 // Region id: its blocks in order, where a depth is left for them.
 #[cycle(visit_block_visit_operation_visit_region_visit_regions)]
 fn visit_region(
-    x: &Tables<'_>,
+    x: &Tables<'_, '_, '_>,
     sheet: &[u64],
     claims: &Claims<'_>,
     dense: &mut [u64],
@@ -182,7 +182,7 @@ fn visit_region(
 // Block id: its arguments take the next numbers, then its operations in order; its numbers are free again after it.
 #[cycle(visit_block_visit_operation_visit_region_visit_regions)]
 fn visit_block(
-    x: &Tables<'_>,
+    x: &Tables<'_, '_, '_>,
     sheet: &[u64],
     claims: &Claims<'_>,
     dense: &mut [u64],
@@ -212,7 +212,7 @@ fn visit_block(
 // Operation id: its operands, count and results, then its regions, where the results are live.
 #[cycle(visit_block_visit_operation_visit_region_visit_regions)]
 fn visit_operation(
-    x: &Tables<'_>,
+    x: &Tables<'_, '_, '_>,
     sheet: &[u64],
     claims: &Claims<'_>,
     dense: &mut [u64],
@@ -239,7 +239,7 @@ fn visit_operation(
 
 // The entry walk of a function, from number 0: the first block of its first region.
 pub fn visit_function(
-    x: &Tables<'_>,
+    x: &Tables<'_, '_, '_>,
     sheet: &[u64],
     claims: &Claims<'_>,
     dense: &mut [u64],

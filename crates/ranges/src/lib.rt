@@ -34,7 +34,7 @@ pub struct Pass {
 }
 
 impl Pass {
-    pub fn types(x: &Tables<'_>) -> Pass
+    pub fn types(x: &Tables<'_, '_, '_>) -> Pass
         ensures { result ≡ record { table = type_table; size = max_types; width = 16; cells = length x.now.t; count = x.now.counts.types } }
     {
         Pass {
@@ -46,7 +46,7 @@ impl Pass {
         }
     }
 
-    pub fn values(x: &Tables<'_>) -> Pass
+    pub fn values(x: &Tables<'_, '_, '_>) -> Pass
         ensures { result ≡ record { table = value_table; size = max_values; width = 4; cells = length x.now.v; count = x.now.counts.values } }
     {
         Pass {
@@ -58,7 +58,7 @@ impl Pass {
         }
     }
 
-    pub fn operations(x: &Tables<'_>) -> Pass
+    pub fn operations(x: &Tables<'_, '_, '_>) -> Pass
         ensures { result ≡ record { table = operation_table; size = max_operations; width = 16; cells = length x.now.o; count = x.now.counts.operations } }
     {
         Pass {
@@ -70,7 +70,7 @@ impl Pass {
         }
     }
 
-    pub fn attributes(x: &Tables<'_>) -> Pass
+    pub fn attributes(x: &Tables<'_, '_, '_>) -> Pass
         ensures { result ≡ record { table = attribute_table; size = max_attributes; width = 8; cells = length x.now.a; count = x.now.counts.attributes } }
     {
         Pass {
@@ -82,7 +82,7 @@ impl Pass {
         }
     }
 
-    pub fn blocks(x: &Tables<'_>) -> Pass
+    pub fn blocks(x: &Tables<'_, '_, '_>) -> Pass
         ensures { result ≡ record { table = block_table; size = max_blocks; width = 4; cells = length x.now.b; count = x.now.counts.blocks } }
     {
         Pass {
@@ -94,7 +94,7 @@ impl Pass {
         }
     }
 
-    pub fn regions(x: &Tables<'_>) -> Pass
+    pub fn regions(x: &Tables<'_, '_, '_>) -> Pass
         ensures { result ≡ record { table = region_table; size = max_regions; width = 2; cells = length x.now.r; count = x.now.counts.regions } }
     {
         Pass {
@@ -106,7 +106,7 @@ impl Pass {
         }
     }
 
-    pub fn functions(x: &Tables<'_>) -> Pass
+    pub fn functions(x: &Tables<'_, '_, '_>) -> Pass
         ensures { result ≡ record { table = function_table; size = max_functions; width = 1; cells = length x.now.f; count = x.now.counts.functions } }
     {
         Pass {
@@ -207,20 +207,20 @@ fn all_signed32(xs: &[u64]) -> bool
 }
 
 // Whether a list stands within the list entries; and whether it is whole there and holds ids below n alone.
-fn is_within(x: &Tables<'_>, span: Span) -> bool
+fn is_within(x: &Tables<'_, '_, '_>, span: Span) -> bool
     ensures { result ≡ within x.now span }
 {
     fits(span.start, span.len, x.entries().len() as u64)
 }
 
-pub fn good_list(x: &Tables<'_>, span: Span, n: u64) -> bool
+pub fn good_list(x: &Tables<'_, '_, '_>, span: Span, n: u64) -> bool
     ensures { result ≡ good_list x.now.l span n }
 {
     is_within(x, span) & all_below(cells::entries(x.entries(), span), n)
 }
 
 // A token's other columns mean nothing.
-fn good_type(x: &Tables<'_>, id: u64) -> bool
+fn good_type(x: &Tables<'_, '_, '_>, id: u64) -> bool
     ensures { result ≡ good_type x.now id }
 {
     let form = x.type_form(id);
@@ -235,7 +235,7 @@ fn good_type(x: &Tables<'_>, id: u64) -> bool
 }
 
 // What a value claims: any index of an operation that there is.
-fn good_claim(x: &Tables<'_>, claim: Option<Claim>) -> bool
+fn good_claim(x: &Tables<'_, '_, '_>, claim: Option<Claim>) -> bool
     ensures { result ≡ good_claim x.now claim }
 {
     match claim {
@@ -244,13 +244,13 @@ fn good_claim(x: &Tables<'_>, claim: Option<Claim>) -> bool
     }
 }
 
-fn good_value(x: &Tables<'_>, id: u64) -> bool
+fn good_value(x: &Tables<'_, '_, '_>, id: u64) -> bool
     ensures { result ≡ good_value x.now id }
 {
     (x.value_type(id) < x.counts().types) & (x.claim_flag(id) < 2) & good_claim(x, x.claim(id))
 }
 
-fn good_operation(x: &Tables<'_>, id: u64) -> bool
+fn good_operation(x: &Tables<'_, '_, '_>, id: u64) -> bool
     ensures { result ≡ good_operation x.now id }
 {
     let n = x.counts();
@@ -293,7 +293,7 @@ fn good_numbers(form: u64, count: u64, absent: u64, xs: &[u64]) -> bool
     (form == names::OTHER) & (count == 0) & (absent == 0)
 }
 
-fn good_attribute(x: &Tables<'_>, id: u64) -> bool
+fn good_attribute(x: &Tables<'_, '_, '_>, id: u64) -> bool
     ensures { result ≡ good_attribute x.now id }
 {
     let span = x.attribute_numbers_span(id);
@@ -307,21 +307,21 @@ fn good_attribute(x: &Tables<'_>, id: u64) -> bool
         )
 }
 
-fn good_block(x: &Tables<'_>, id: u64) -> bool
+fn good_block(x: &Tables<'_, '_, '_>, id: u64) -> bool
     ensures { result ≡ good_block x.now id }
 {
     good_list(x, x.arguments_span(id), x.counts().values)
         & good_list(x, x.operations_span(id), x.counts().operations)
 }
 
-pub fn good_region(x: &Tables<'_>, id: u64) -> bool
+pub fn good_region(x: &Tables<'_, '_, '_>, id: u64) -> bool
     ensures { result ≡ good_region x.now id }
 {
     good_list(x, x.blocks_span(id), x.counts().blocks)
 }
 
 // How many list entries an entry's lists take, as far as 64 bits go.
-pub fn listed_by_operation(x: &Tables<'_>, id: u64) -> u64
+pub fn listed_by_operation(x: &Tables<'_, '_, '_>, id: u64) -> u64
     ensures { result ≡ min (listed_by_operation x.now id) (2 ^ 64 - 1) }
 {
     let types = x.result_types_span(id).len;
@@ -330,13 +330,13 @@ pub fn listed_by_operation(x: &Tables<'_>, id: u64) -> u64
     types.saturating_add(operands).saturating_add(regions)
 }
 
-fn listed_by_attribute(x: &Tables<'_>, id: u64) -> u64
+fn listed_by_attribute(x: &Tables<'_, '_, '_>, id: u64) -> u64
     ensures { result ≡ min (listed_by_attribute x.now id) (2 ^ 64 - 1) }
 {
     x.attribute_numbers_span(id).len
 }
 
-pub fn listed_by_block(x: &Tables<'_>, id: u64) -> u64
+pub fn listed_by_block(x: &Tables<'_, '_, '_>, id: u64) -> u64
     ensures { result ≡ min (listed_by_block x.now id) (2 ^ 64 - 1) }
 {
     let arguments = x.arguments_span(id).len;
@@ -344,14 +344,14 @@ pub fn listed_by_block(x: &Tables<'_>, id: u64) -> u64
     arguments.saturating_add(operations)
 }
 
-pub fn listed_by_region(x: &Tables<'_>, id: u64) -> u64
+pub fn listed_by_region(x: &Tables<'_, '_, '_>, id: u64) -> u64
     ensures { result ≡ min (listed_by_region x.now id) (2 ^ 64 - 1) }
 {
     x.blocks_span(id).len
 }
 
 // The first table's first entry that is out of range.
-pub fn check_tables(x: &Tables<'_>) -> Answer
+pub fn check_tables(x: &Tables<'_, '_, '_>) -> Answer
     ensures { result ≡ table_ranges x.now }
 {
     Pass::types(x).first_bad(|i| good_type(x, i))?;

@@ -125,7 +125,7 @@ struct Reading {
 // Which numbers are read back over which tables.
 #[derive(Clone, Copy)]
 struct Reader<'a> {
-    pub x: &'a Tables<'a>,
+    pub x: &'a Tables<'a, 'a, 'a>,
     pub numbers: &'a [u64],
 }
 
@@ -225,7 +225,7 @@ impl<'a> Reader<'a> {
 }
 
 // What is said of all numbers, and the places in the list as far as it has room.
-pub fn read_all(x: &Tables<'_>, numbers: &[u64], places: &mut [u64]) -> Answer
+pub fn read_all(x: &Tables<'_, '_, '_>, numbers: &[u64], places: &mut [u64]) -> Answer
     ensures { outcome result places.new ≡ judged_all x.now numbers.now places.old }
 {
     let reader = Reader { x, numbers };
@@ -247,7 +247,7 @@ pub fn read_all(x: &Tables<'_>, numbers: &[u64], places: &mut [u64]) -> Answer
 }
 
 // The numbers are judged first: a refusal leaves the list of places as it was.
-pub fn read_back(x: &Tables<'_>, numbers: &[u64], places: &mut [u64]) -> Answer
+pub fn read_back(x: &Tables<'_, '_, '_>, numbers: &[u64], places: &mut [u64]) -> Answer
     ensures { outcome result places.new ≡ read_back_alone x.now numbers.now places.old }
 {
     nesting_check::check_nesting(x)?;

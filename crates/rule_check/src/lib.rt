@@ -10,7 +10,13 @@ use cells::Span;
 use tables::{Answer, Tables, Target};
 
 // For a caller that has asked 16 and 1 to 4: the walk order is the first so many entries of the list.
-pub fn after_checks(g: Target, x: &Tables<'_>, sheet: &[u64], list: &[u64], count: u64) -> Answer
+pub fn after_checks(
+    g: Target,
+    x: &Tables<'_, '_, '_>,
+    sheet: &[u64],
+    list: &[u64],
+    count: u64,
+) -> Answer
     ensures { (b r f : List ℕ) → result ≡ rules g.version sheet.now (lent x.now.t x.now.v x.now.o x.now.a b r f x.now.l x.now.counts) (take count list.now) }
 {
     let order = cells::entries(
@@ -25,7 +31,7 @@ pub fn after_checks(g: Target, x: &Tables<'_>, sheet: &[u64], list: &[u64], coun
 
 // The claims are not asked for.
 #[tactic(auto, unfolding(crate::specs::Alone::rules_alone))]
-pub fn check_alone(g: Target, x: &Tables<'_>, sheet: &[u64]) -> Answer
+pub fn check_alone(g: Target, x: &Tables<'_, '_, '_>, sheet: &[u64]) -> Answer
     ensures { result ≡ rules_alone g sheet.now x.now }
 {
     table_checks::check_target(g)?;

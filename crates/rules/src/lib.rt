@@ -17,7 +17,7 @@ use opcodes::*;
 
 // What the arm of its opcode asks of an operation, in one step: two would be two jumps.
 #[tactic(auto, unfolding(crate::specs::Operation::arm_of, crate::specs::Operation::arm_rule))]
-fn arm_rule(version: u64, x: &Tables<'_>, sheet: &[u64], i: u64) -> Verdict
+fn arm_rule(version: u64, x: &Tables<'_, '_, '_>, sheet: &[u64], i: u64) -> Verdict
     ensures { result ≡ arm_rule version sheet.now x.now i (arm_of (opcode x.now i)) }
 {
     match x.opcode(i) {
@@ -60,7 +60,7 @@ fn judged(operation: u64, verdict: Verdict) -> Answer
 
 // The rules of an operation: its opcode's arm, then the closing rule on flush_to_zero.
 #[tactic(auto, using(crate::proofs::Along::unflushed), unfolding(crate::specs::Operation::verify_operation))]
-fn verify_operation(version: u64, x: &Tables<'_>, sheet: &[u64], operation: u64) -> Answer
+fn verify_operation(version: u64, x: &Tables<'_, '_, '_>, sheet: &[u64], operation: u64) -> Answer
     ensures { result ≡ verify_operation version sheet.now x.now operation }
 {
     judged(operation, arm_rule(version, x, sheet, operation))?;
@@ -81,7 +81,13 @@ fn place_or(straight: bool, place: u64, given: u64) -> u64
 // The rules of the operations, in the order given or in that of the table: the first refusal. One loop for both: the rules stand in it once, and
 // are not called.
 #[tactic(auto, using(crate::proofs::Along::along_step, crate::proofs::Along::along_end), unfolding(crate::specs::Operation::rules))]
-fn rules_along(version: u64, x: &Tables<'_>, sheet: &[u64], order: &[u64], straight: bool) -> Answer
+fn rules_along(
+    version: u64,
+    x: &Tables<'_, '_, '_>,
+    sheet: &[u64],
+    order: &[u64],
+    straight: bool,
+) -> Answer
     ensures { result ≡ rules version sheet.now x.now (cond straight (below (length order.now)) order.now) }
 {
     for (k, &given) in order.iter().enumerate() {
@@ -94,7 +100,7 @@ fn rules_along(version: u64, x: &Tables<'_>, sheet: &[u64], order: &[u64], strai
 // The rules of the operations, in the order given: the first refusal. Rows next to each other are read faster than rows in that order, and most
 // modules pass: so where no operation is left out the table is followed first, and the order where it refuses.
 #[tactic(auto, using(crate::proofs::Along::in_any_order))]
-pub fn check_rules(version: u64, x: &Tables<'_>, sheet: &[u64], order: &[u64]) -> Answer
+pub fn check_rules(version: u64, x: &Tables<'_, '_, '_>, sheet: &[u64], order: &[u64]) -> Answer
     ensures { result ≡ rules version sheet.now x.now order.now }
 {
     if x.counts().operations <= order.len() as u64 {

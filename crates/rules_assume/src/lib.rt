@@ -15,7 +15,7 @@ const TENSOR_VIEW: u64 = 3;
 
 // Number j of an attribute, where it is not absent.
 #[tactic(auto, unfolding(crate::specs::Assume::number_in, crate::specs::Assume::has_bit, arith::specs::Bits::has_bit))]
-fn number_at(x: &Tables<'_>, attribute: u64, j: u64) -> Option<u64>
+fn number_at(x: &Tables<'_, '_, '_>, attribute: u64, j: u64) -> Option<u64>
     ensures { result ≡ number_in x.now.a x.now.l x.now.counts attribute j }
 {
     if arith::has_bit(32, x.attribute_absent(attribute), j) {
@@ -117,7 +117,13 @@ fn bounded_rule(sheet: &[u64], value: Tile, lb: Option<u64>, ub: Option<u64>) ->
 
 // What an attribute asks, by its form.
 #[tactic(auto, unfolding(crate::specs::Assume::attribute_rule))]
-fn attribute_rule(x: &Tables<'_>, sheet: &[u64], value: Tile, view: bool, attribute: u64) -> Verdict
+fn attribute_rule(
+    x: &Tables<'_, '_, '_>,
+    sheet: &[u64],
+    value: Tile,
+    view: bool,
+    attribute: u64,
+) -> Verdict
     ensures { result ≡ attribute_rule x.now.a x.now.l sheet.now x.now.counts value view attribute }
 {
     let numbers = x.attribute_numbers(attribute);
@@ -140,7 +146,7 @@ fn attribute_rule(x: &Tables<'_>, sheet: &[u64], value: Tile, view: bool, attrib
     }
 }
 
-fn is_tensor_view(x: &Tables<'_>, typed: Option<u64>) -> bool
+fn is_tensor_view(x: &Tables<'_, '_, '_>, typed: Option<u64>) -> bool
     ensures { result ≡ is_tensor_view x.now.t x.now.counts typed }
 {
     matches!(typed, Some(id) if x.type_form(id) == TENSOR_VIEW)
@@ -148,7 +154,7 @@ fn is_tensor_view(x: &Tables<'_>, typed: Option<u64>) -> bool
 
 // The arm of Assume.
 #[tactic(auto, using(crate::proofs::Turns::turn, crate::proofs::Turns::turns_end), unfolding(crate::specs::Assume::assume_in))]
-pub fn assume(x: &Tables<'_>, sheet: &[u64], operation: u64) -> Verdict
+pub fn assume(x: &Tables<'_, '_, '_>, sheet: &[u64], operation: u64) -> Verdict
     ensures { result ≡ assume_arm sheet.now x.now operation }
 {
     let value = lookups::operand_tile(x, sheet, operation, 0);

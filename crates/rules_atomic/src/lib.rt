@@ -17,7 +17,7 @@ pub const ATOMIC_CAS: u64 = 7;
 pub const ATOMIC_RMW: u64 = 8;
 
 #[tactic(auto, unfolding(crate::specs::Arm::is_swap))]
-fn is_swap(x: &Tables<'_>, operation: u64) -> bool
+fn is_swap(x: &Tables<'_, '_, '_>, operation: u64) -> bool
     ensures { result ≡ is_swap x.now.o x.now.counts operation }
 {
     x.opcode(operation) == ATOMIC_CAS
@@ -39,7 +39,7 @@ fn is_between(low: u64, high: u64, found: Option<u64>) -> bool
 }
 
 #[tactic(auto, unfolding(crate::specs::Arm::is_bad_swap))]
-fn is_bad_swap(x: &Tables<'_>, sheet: &[u64], operation: u64, val: Tile) -> bool
+fn is_bad_swap(x: &Tables<'_, '_, '_>, sheet: &[u64], operation: u64, val: Tile) -> bool
     ensures { result ≡ is_bad_swap x.now.t x.now.v x.now.o x.now.l sheet.now x.now.counts operation val }
 {
     if !is_swap(x, operation) {
@@ -50,7 +50,7 @@ fn is_bad_swap(x: &Tables<'_>, sheet: &[u64], operation: u64, val: Tile) -> bool
 }
 
 #[tactic(auto, unfolding(crate::specs::Arm::is_bad_mode))]
-fn is_bad_mode(x: &Tables<'_>, sheet: &[u64], operation: u64, val: Tile) -> bool
+fn is_bad_mode(x: &Tables<'_, '_, '_>, sheet: &[u64], operation: u64, val: Tile) -> bool
     ensures { result ≡ is_bad_mode x.now.o x.now.a x.now.l sheet.now x.now.counts operation val }
 {
     if is_swap(x, operation) {
@@ -60,7 +60,7 @@ fn is_bad_mode(x: &Tables<'_>, sheet: &[u64], operation: u64, val: Tile) -> bool
 }
 
 #[tactic(auto, unfolding(crate::specs::Arm::is_bad_order))]
-fn is_bad_order(x: &Tables<'_>, operation: u64) -> bool
+fn is_bad_order(x: &Tables<'_, '_, '_>, operation: u64) -> bool
     ensures { result ≡ is_bad_order x.now.o x.now.a x.now.l x.now.counts operation }
 {
     let ordering = lookups::integer(x, operation, names::MEMORY_ORDERING_SEMANTICS);
@@ -70,7 +70,7 @@ fn is_bad_order(x: &Tables<'_>, operation: u64) -> bool
 
 // The value is a tile that is no mask for this one.
 #[tactic(auto, unfolding(tiles::specs::Tile::tile_in))]
-fn is_wrong(x: &Tables<'_>, sheet: &[u64], val: Tile, value: u64) -> bool
+fn is_wrong(x: &Tables<'_, '_, '_>, sheet: &[u64], val: Tile, value: u64) -> bool
     ensures { result ≡ is_wrong_mask (tile_in x.now.t sheet.now x.now.counts (value_type_in x.now.v x.now.counts value)) val }
 {
     let row = tiles::seen_row(x, sheet, x.value_type(value));
@@ -78,7 +78,7 @@ fn is_wrong(x: &Tables<'_>, sheet: &[u64], val: Tile, value: u64) -> bool
 }
 
 // From the first on, some operand is a tile that is no mask for the value.
-fn any_wrong(x: &Tables<'_>, sheet: &[u64], val: Tile, operands: &[u64], first: u64) -> bool
+fn any_wrong(x: &Tables<'_, '_, '_>, sheet: &[u64], val: Tile, operands: &[u64], first: u64) -> bool
     ensures { result ≡ list_any (λ v. is_wrong_mask (tile_in x.now.t sheet.now x.now.counts (value_type_in x.now.v x.now.counts v)) val) (drop first operands.now) }
 {
     let mut masks = operands.iter().skip(first as usize);
@@ -86,14 +86,14 @@ fn any_wrong(x: &Tables<'_>, sheet: &[u64], val: Tile, operands: &[u64], first: 
 }
 
 #[tactic(auto, unfolding(crate::specs::Arm::mask_start))]
-fn mask_start(x: &Tables<'_>, operation: u64) -> u64
+fn mask_start(x: &Tables<'_, '_, '_>, operation: u64) -> u64
     ensures { result ≡ mask_start x.now.o x.now.counts operation }
 {
     if is_swap(x, operation) { 3 } else { 2 }
 }
 
 #[tactic(auto, using(crate::proofs::Masks::wrong_masks), unfolding(crate::specs::Arm::is_bad_mask))]
-fn is_bad_mask(x: &Tables<'_>, sheet: &[u64], operation: u64, val: Tile) -> bool
+fn is_bad_mask(x: &Tables<'_, '_, '_>, sheet: &[u64], operation: u64, val: Tile) -> bool
     ensures { result ≡ is_bad_mask x.now.t x.now.v x.now.o x.now.l sheet.now x.now.counts operation val }
 {
     any_wrong(
@@ -107,7 +107,14 @@ fn is_bad_mask(x: &Tables<'_>, sheet: &[u64], operation: u64, val: Tile) -> bool
 
 // The rule, on the tiles of the pointer, the value and the result.
 #[tactic(auto, unfolding(crate::specs::Arm::atomic_by, lookups::specs::Verdict::fail_if))]
-fn atomic(x: &Tables<'_>, sheet: &[u64], operation: u64, ptr: Tile, val: Tile, res: Tile) -> Verdict
+fn atomic(
+    x: &Tables<'_, '_, '_>,
+    sheet: &[u64],
+    operation: u64,
+    ptr: Tile,
+    val: Tile,
+    res: Tile,
+) -> Verdict
     ensures { result ≡ atomic_by x.now.t x.now.v x.now.o x.now.a x.now.l sheet.now x.now.counts operation ptr val res }
 {
     fail_if(!tiles::is_tile(ptr), 1)?;
@@ -122,7 +129,7 @@ fn atomic(x: &Tables<'_>, sheet: &[u64], operation: u64, ptr: Tile, val: Tile, r
 
 // The rule of an atomic operation.
 #[tactic(auto, unfolding(crate::specs::Arm::atomic_in))]
-pub fn atomic_arm(x: &Tables<'_>, sheet: &[u64], operation: u64) -> Verdict
+pub fn atomic_arm(x: &Tables<'_, '_, '_>, sheet: &[u64], operation: u64) -> Verdict
     ensures { result ≡ atomic_arm sheet.now x.now operation }
 {
     let ptr = lookups::operand_tile(x, sheet, operation, 0);

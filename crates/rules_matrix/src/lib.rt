@@ -59,7 +59,7 @@ fn mma_rule(opcode: u64, a: Tile, b: Tile, c: Tile, res: Tile, sa: Tile, sb: Til
 
 // The arm of MmaF, MmaI and MmaFScaled.
 #[tactic(auto, unfolding(crate::specs::Mma::mma_in))]
-pub fn mma(x: &Tables<'_>, sheet: &[u64], operation: u64) -> Verdict
+pub fn mma(x: &Tables<'_, '_, '_>, sheet: &[u64], operation: u64) -> Verdict
     ensures { result ≡ mma_arm sheet.now x.now operation }
 {
     let opcode = x.opcode(operation);
@@ -74,7 +74,7 @@ pub fn mma(x: &Tables<'_>, sheet: &[u64], operation: u64) -> Verdict
 
 // The value is a single I32.
 #[tactic(auto, unfolding(tiles::specs::Tile::tile_in))]
-fn is_index_value(x: &Tables<'_>, sheet: &[u64], value: u64) -> bool
+fn is_index_value(x: &Tables<'_, '_, '_>, sheet: &[u64], value: u64) -> bool
     ensures { result ≡ is_index (tile_in x.now.t sheet.now x.now.counts (value_type_in x.now.v x.now.counts value)) }
 {
     let row = tiles::seen_row(x, sheet, x.value_type(value));
@@ -82,7 +82,7 @@ fn is_index_value(x: &Tables<'_>, sheet: &[u64], value: u64) -> bool
 }
 
 // Some value from the offset on is no single I32.
-fn any_other(x: &Tables<'_>, sheet: &[u64], values: &[u64], offset: u64) -> bool
+fn any_other(x: &Tables<'_, '_, '_>, sheet: &[u64], values: &[u64], offset: u64) -> bool
     ensures { result ≡ list_any (λ v. not (is_index (tile_in x.now.t sheet.now x.now.counts (value_type_in x.now.v x.now.counts v)))) (drop offset values.now) }
 {
     let mut indices = values.iter().skip(offset as usize);
@@ -91,7 +91,13 @@ fn any_other(x: &Tables<'_>, sheet: &[u64], values: &[u64], offset: u64) -> bool
 
 // The operands from the offset on are not one index for each of so many dims.
 #[tactic(auto, using(crate::proofs::Indices::other_count, crate::proofs::Indices::same_count))]
-fn indices_differ(x: &Tables<'_>, sheet: &[u64], operation: u64, offset: u64, rank: u64) -> bool
+fn indices_differ(
+    x: &Tables<'_, '_, '_>,
+    sheet: &[u64],
+    operation: u64,
+    offset: u64,
+    rank: u64,
+) -> bool
     ensures { result ≡ indices_differ x.now.t x.now.v x.now.o x.now.l sheet.now x.now.counts operation offset rank }
 {
     let operands = x.operands(operation);
@@ -105,7 +111,7 @@ fn indices_differ(x: &Tables<'_>, sheet: &[u64], operation: u64, offset: u64, ra
 // What Insert and Extract ask of the small tile, the large one, and the operands from the offset on.
 #[tactic(auto, unfolding(crate::specs::Part::part_rule, lookups::specs::Verdict::fail_if))]
 fn part_rule(
-    x: &Tables<'_>,
+    x: &Tables<'_, '_, '_>,
     sheet: &[u64],
     operation: u64,
     small: Tile,
@@ -121,7 +127,7 @@ fn part_rule(
 
 // The arm of Insert and Extract.
 #[tactic(auto, unfolding(crate::specs::Part::part_in, lookups::specs::Verdict::fail_if))]
-pub fn insert_extract(x: &Tables<'_>, sheet: &[u64], operation: u64) -> Verdict
+pub fn insert_extract(x: &Tables<'_, '_, '_>, sheet: &[u64], operation: u64) -> Verdict
     ensures { result ≡ part_arm sheet.now x.now operation }
 {
     let source = lookups::operand_tile(x, sheet, operation, 0);

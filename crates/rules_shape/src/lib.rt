@@ -21,7 +21,7 @@ pub const PACK: u64 = 93;
 pub const UNPACK: u64 = 94;
 
 // There is a permutation, and it moves the source's dims to the result's.
-fn is_moved(x: &Tables<'_>, src: Tile, dst: Tile, permutation: Option<u64>) -> bool
+fn is_moved(x: &Tables<'_, '_, '_>, src: Tile, dst: Tile, permutation: Option<u64>) -> bool
     ensures { result ≡ moved_by x.now.a x.now.l x.now.counts src dst permutation }
 {
     match permutation {
@@ -50,7 +50,7 @@ fn pack_leaves(sheet: &[u64], code: u64, src: Tile, dst: Tile) -> bool
 
 // What the operation asks of its source and its result.
 #[tactic(auto, unfolding(crate::specs::Arm::valid_in))]
-fn is_valid(x: &Tables<'_>, sheet: &[u64], operation: u64, src: Tile, dst: Tile) -> bool
+fn is_valid(x: &Tables<'_, '_, '_>, sheet: &[u64], operation: u64, src: Tile, dst: Tile) -> bool
     ensures { result ≡ valid_in x.now.o x.now.a x.now.l sheet.now x.now.counts operation src dst }
 {
     match x.opcode(operation) {
@@ -66,7 +66,7 @@ fn is_valid(x: &Tables<'_>, sheet: &[u64], operation: u64, src: Tile, dst: Tile)
 
 // The rule, on the source and the result.
 #[tactic(auto, unfolding(crate::specs::Arm::shaped_in, lookups::specs::Verdict::fail_if, lookups::specs::Verdict::leave_if))]
-fn shaped(x: &Tables<'_>, sheet: &[u64], operation: u64, src: Tile, dst: Tile) -> Verdict
+fn shaped(x: &Tables<'_, '_, '_>, sheet: &[u64], operation: u64, src: Tile, dst: Tile) -> Verdict
     ensures { result ≡ shaped_in x.now.o x.now.a x.now.l sheet.now x.now.counts operation src dst }
 {
     fail_if(!tiles::is_tile(src), 1)?;
@@ -79,7 +79,7 @@ fn shaped(x: &Tables<'_>, sheet: &[u64], operation: u64, src: Tile, dst: Tile) -
 
 // The rule of a shape operation.
 #[tactic(auto, unfolding(crate::specs::Arm::shape_in))]
-pub fn shape_arm(x: &Tables<'_>, sheet: &[u64], operation: u64) -> Verdict
+pub fn shape_arm(x: &Tables<'_, '_, '_>, sheet: &[u64], operation: u64) -> Verdict
     ensures { result ≡ shape_arm sheet.now x.now operation }
 {
     let src = lookups::operand_tile(x, sheet, operation, 0);

@@ -15,7 +15,7 @@ const MEMORY_FENCE_ALIAS_TKO: u64 = 104;
 
 // FToI: rounding to the nearest integer towards zero.
 #[tactic(auto, unfolding(crate::specs::Rounding::f_to_i, lookups::specs::Verdict::fail_if))]
-pub fn f_to_i(x: &Tables<'_>, operation: u64) -> Verdict
+pub fn f_to_i(x: &Tables<'_, '_, '_>, operation: u64) -> Verdict
     ensures { result ≡ f_to_i x.now operation }
 {
     let rounding = lookups::integer(x, operation, names::ROUNDING_MODE);
@@ -24,7 +24,7 @@ pub fn f_to_i(x: &Tables<'_>, operation: u64) -> Verdict
 
 // AddF, SubF, MulF and Fma: rounding to the nearest, up, down or towards zero.
 #[tactic(auto, unfolding(crate::specs::Rounding::add_f, lookups::specs::Verdict::fail_if))]
-pub fn add_f(x: &Tables<'_>, operation: u64) -> Verdict
+pub fn add_f(x: &Tables<'_, '_, '_>, operation: u64) -> Verdict
     ensures { result ≡ add_f x.now operation }
 {
     let rounding = lookups::integer(x, operation, names::ROUNDING_MODE);
@@ -33,7 +33,7 @@ pub fn add_f(x: &Tables<'_>, operation: u64) -> Verdict
 
 // Exp and TanH: approximate rounding is for F32 alone.
 #[tactic(auto, unfolding(crate::specs::Rounding::exp, lookups::specs::Verdict::fail_if))]
-pub fn exp(x: &Tables<'_>, sheet: &[u64], operation: u64) -> Verdict
+pub fn exp(x: &Tables<'_, '_, '_>, sheet: &[u64], operation: u64) -> Verdict
     ensures { result ≡ exp sheet.now x.now operation }
 {
     let rounding = lookups::integer(x, operation, names::ROUNDING_MODE).unwrap_or(5);
@@ -45,7 +45,7 @@ pub fn exp(x: &Tables<'_>, sheet: &[u64], operation: u64) -> Verdict
 }
 
 // The pointer attribute of a type, 0 where there is none.
-fn pointer_by(x: &Tables<'_>, typed: Option<u64>) -> u64
+fn pointer_by(x: &Tables<'_, '_, '_>, typed: Option<u64>) -> u64
     ensures { result ≡ pointer_by x.now.t x.now.counts typed }
 {
     match typed {
@@ -56,7 +56,7 @@ fn pointer_by(x: &Tables<'_>, typed: Option<u64>) -> u64
 
 // MakePartitionView, MakeTensorView, MakeGatherScatterView and MakeStridedView: the pointer attribute is kept.
 #[tactic(auto, unfolding(crate::specs::Memory::make_view, lookups::specs::Verdict::fail_if))]
-pub fn make_view(x: &Tables<'_>, operation: u64) -> Verdict
+pub fn make_view(x: &Tables<'_, '_, '_>, operation: u64) -> Verdict
     ensures { result ≡ make_view x.now operation }
 {
     let source = pointer_by(x, lookups::operand_type(x, operation, 0));
@@ -82,7 +82,7 @@ fn is_misaligned(bits: u64, natural: u64) -> bool
 
 // Alloca: so many elements, aligned.
 #[tactic(auto, using(lookups::proofs::Rows::row_tile_by), unfolding(crate::specs::Memory::alloca, lookups::specs::Verdict::fail_if, lookups::specs::Typed::result_tile_in))]
-pub fn alloca(x: &Tables<'_>, sheet: &[u64], operation: u64) -> Verdict
+pub fn alloca(x: &Tables<'_, '_, '_>, sheet: &[u64], operation: u64) -> Verdict
     ensures { result ≡ alloca sheet.now x.now operation }
 {
     let count = lookups::integer(x, operation, names::NUM_ELEM).ok_or(Fault::Broken(1))?;
@@ -97,7 +97,7 @@ pub fn alloca(x: &Tables<'_>, sheet: &[u64], operation: u64) -> Verdict
 
 // FPowI: a float to the power of an integer of its shape.
 #[tactic(auto, unfolding(crate::specs::Power::f_pow_i, lookups::specs::Verdict::fail_if))]
-pub fn f_pow_i(x: &Tables<'_>, sheet: &[u64], operation: u64) -> Verdict
+pub fn f_pow_i(x: &Tables<'_, '_, '_>, sheet: &[u64], operation: u64) -> Verdict
     ensures { result ≡ f_pow_i sheet.now x.now operation }
 {
     let base = lookups::operand_tile(x, sheet, operation, 0);
@@ -116,7 +116,7 @@ pub fn f_pow_i(x: &Tables<'_>, sheet: &[u64], operation: u64) -> Verdict
 }
 
 #[tactic(auto, unfolding(crate::specs::Token::is_token))]
-fn is_token(x: &Tables<'_>, id: u64) -> bool
+fn is_token(x: &Tables<'_, '_, '_>, id: u64) -> bool
     ensures { result ≡ is_token x.now.t x.now.counts id }
 {
     x.type_form(id) == 0
@@ -124,7 +124,7 @@ fn is_token(x: &Tables<'_>, id: u64) -> bool
 
 // The types are one token.
 #[tactic(auto, unfolding(crate::specs::Token::is_one_token))]
-fn is_one_token(x: &Tables<'_>, types: &[u64]) -> bool
+fn is_one_token(x: &Tables<'_, '_, '_>, types: &[u64]) -> bool
     ensures { result ≡ is_one_token x.now.t x.now.counts types.now }
 {
     match types {
@@ -135,7 +135,7 @@ fn is_one_token(x: &Tables<'_>, types: &[u64]) -> bool
 
 // The results are one token, and the operands none or one; the fence takes one. Of two operands it is not asked what they are.
 #[tactic(auto, unfolding(crate::specs::Token::is_signature, crate::specs::Token::some_typed))]
-fn is_signature(x: &Tables<'_>, opcode: u64, types: &[u64], operands: &[u64]) -> bool
+fn is_signature(x: &Tables<'_, '_, '_>, opcode: u64, types: &[u64], operands: &[u64]) -> bool
     ensures { result ≡ is_signature x.now.t x.now.v x.now.counts opcode types.now operands.now }
 {
     if !is_one_token(x, types) {
@@ -150,7 +150,7 @@ fn is_signature(x: &Tables<'_>, opcode: u64, types: &[u64], operands: &[u64]) ->
 
 // GdcLaunchDependentsTko, GdcWaitTko and MemoryFenceAliasTko: tokens in and out.
 #[tactic(auto, unfolding(crate::specs::Token::tokens, lookups::specs::Verdict::fail_if))]
-pub fn tokens(x: &Tables<'_>, operation: u64) -> Verdict
+pub fn tokens(x: &Tables<'_, '_, '_>, operation: u64) -> Verdict
     ensures { result ≡ tokens x.now operation }
 {
     let types = x.result_types(operation);
@@ -191,7 +191,7 @@ fn is_rounding(sheet: &[u64], version: u64, src: u64, dst: u64, rounding: u64) -
 
 // FToF: between two float kinds, by a rounding that they take.
 #[tactic(auto, using(lookups::proofs::Rows::row_tile_by), unfolding(crate::specs::Rounding::f_to_f, lookups::specs::Verdict::fail_if, lookups::specs::Typed::operand_tile_in, lookups::specs::Typed::result_tile_in))]
-pub fn f_to_f(version: u64, x: &Tables<'_>, sheet: &[u64], operation: u64) -> Verdict
+pub fn f_to_f(version: u64, x: &Tables<'_, '_, '_>, sheet: &[u64], operation: u64) -> Verdict
     ensures { result ≡ f_to_f version sheet.now x.now operation }
 {
     let taken = lookups::operand_type(x, operation, 0);
@@ -210,7 +210,7 @@ pub fn f_to_f(version: u64, x: &Tables<'_>, sheet: &[u64], operation: u64) -> Ve
 
 // The closing rule of every operation: flush_to_zero is for F32 alone.
 #[tactic(auto, unfolding(crate::specs::Rounding::flushed, lookups::specs::Verdict::fail_if))]
-pub fn flushed(x: &Tables<'_>, sheet: &[u64], operation: u64) -> Verdict
+pub fn flushed(x: &Tables<'_, '_, '_>, sheet: &[u64], operation: u64) -> Verdict
     ensures { result ≡ flushed sheet.now x.now operation }
 {
     fail_if(

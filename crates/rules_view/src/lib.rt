@@ -56,7 +56,7 @@ fn is_other_tile(value: Tile, view: Tile) -> bool
 }
 
 #[tactic(auto, unfolding(crate::specs::View::is_no_reduction))]
-fn is_no_reduction(x: &Tables<'_>, operation: u64, opcode: u64, id: u64) -> bool
+fn is_no_reduction(x: &Tables<'_, '_, '_>, operation: u64, opcode: u64, id: u64) -> bool
     ensures { result ≡ is_no_reduction x.now.t x.now.o x.now.a x.now.l x.now.counts operation opcode id }
 {
     opcode == ATOMIC_RED_VIEW
@@ -67,7 +67,13 @@ fn is_no_reduction(x: &Tables<'_>, operation: u64, opcode: u64, id: u64) -> bool
 
 // No mode, or one whose mask of the sheet has not this kind.
 #[tactic(auto, unfolding(crate::specs::View::is_mode_wrong, crate::specs::View::takes_kind, arith::specs::Bits::has_bit))]
-fn is_mode_wrong(x: &Tables<'_>, sheet: &[u64], operation: u64, opcode: u64, kind: u64) -> bool
+fn is_mode_wrong(
+    x: &Tables<'_, '_, '_>,
+    sheet: &[u64],
+    operation: u64,
+    opcode: u64,
+    kind: u64,
+) -> bool
     ensures { result ≡ is_mode_wrong x.now.o x.now.a x.now.l sheet.now x.now.counts operation opcode kind }
 {
     if opcode != ATOMIC_RED_VIEW {
@@ -80,14 +86,14 @@ fn is_mode_wrong(x: &Tables<'_>, sheet: &[u64], operation: u64, opcode: u64, kin
 }
 
 #[tactic(auto, unfolding(crate::specs::View::is_count_wrong))]
-fn is_count_wrong(x: &Tables<'_>, operation: u64, opcode: u64, view: Tile) -> bool
+fn is_count_wrong(x: &Tables<'_, '_, '_>, operation: u64, opcode: u64, view: Tile) -> bool
     ensures { result ≡ is_count_wrong x.now.o x.now.a x.now.l x.now.counts operation opcode view }
 {
     lookups::segment(x, operation, segment_place(opcode)) != Some(tiles::rank(view))
 }
 
 #[tactic(auto, unfolding(crate::specs::View::is_order_wrong))]
-fn is_order_wrong(x: &Tables<'_>, operation: u64, opcode: u64) -> bool
+fn is_order_wrong(x: &Tables<'_, '_, '_>, operation: u64, opcode: u64) -> bool
     ensures { result ≡ is_order_wrong x.now.o x.now.a x.now.l x.now.counts operation opcode }
 {
     let order = lookups::integer(x, operation, names::MEMORY_ORDERING_SEMANTICS).unwrap_or(0);
@@ -138,7 +144,7 @@ fn element_after(index: Tile, sparse: bool, element: Option<u64>) -> Option<u64>
 }
 
 #[tactic(auto, unfolding(crate::specs::View::is_sparse_axis))]
-fn is_sparse_axis(x: &Tables<'_>, id: u64, axis: u64) -> bool
+fn is_sparse_axis(x: &Tables<'_, '_, '_>, id: u64, axis: u64) -> bool
     ensures { result ≡ is_sparse_axis x.now.t x.now.counts id axis }
 {
     x.type_form(id) == GATHER_SCATTER && x.type_sparse(id) == axis
@@ -148,7 +154,13 @@ fn is_sparse_axis(x: &Tables<'_>, id: u64, axis: u64) -> bool
 
 // The tile that is loaded, reduced into the view, or stored.
 #[tactic(auto, using(tiles::proofs::Dims::rank_is), unfolding(crate::specs::View::value_in))]
-fn value_tile(x: &Tables<'_>, sheet: &[u64], operation: u64, opcode: u64, view: Tile) -> Tile
+fn value_tile(
+    x: &Tables<'_, '_, '_>,
+    sheet: &[u64],
+    operation: u64,
+    opcode: u64,
+    view: Tile,
+) -> Tile
     ensures { result ≡ value_in x.now.t x.now.v x.now.o x.now.l sheet.now x.now.counts operation opcode view }
 {
     match opcode {
@@ -161,7 +173,7 @@ fn value_tile(x: &Tables<'_>, sheet: &[u64], operation: u64, opcode: u64, view: 
 // What the indices have to be, axis after axis.
 #[tactic(auto, using(tiles::proofs::Dims::rank_is, crate::proofs::Indices::turn, crate::proofs::Indices::turns_end, lookups::proofs::Rows::row_tile_by), unfolding(crate::specs::View::indices_rule, lookups::specs::Typed::operand_tile_in))]
 fn indices_rule(
-    x: &Tables<'_>,
+    x: &Tables<'_, '_, '_>,
     sheet: &[u64],
     operation: u64,
     opcode: u64,
@@ -185,7 +197,7 @@ fn indices_rule(
 // The arm, on the view's type, the tile that it takes and gives, and the value.
 #[tactic(auto, unfolding(crate::specs::View::view_by, lookups::specs::Verdict::fail_if))]
 fn view_by(
-    x: &Tables<'_>,
+    x: &Tables<'_, '_, '_>,
     sheet: &[u64],
     operation: u64,
     opcode: u64,
@@ -207,7 +219,7 @@ fn view_by(
 
 // The arm, on the view's type.
 #[tactic(auto, unfolding(crate::specs::View::view_rule))]
-fn view_rule(x: &Tables<'_>, sheet: &[u64], operation: u64, opcode: u64, id: u64) -> Verdict
+fn view_rule(x: &Tables<'_, '_, '_>, sheet: &[u64], operation: u64, opcode: u64, id: u64) -> Verdict
     ensures { result ≡ view_rule x.now.t x.now.v x.now.o x.now.a x.now.l sheet.now x.now.counts operation opcode id }
 {
     let view = tiles::view_tile(x, id);
@@ -217,7 +229,7 @@ fn view_rule(x: &Tables<'_>, sheet: &[u64], operation: u64, opcode: u64, id: u64
 
 // The arm of LoadViewTko, StoreViewTko and AtomicRedViewTko.
 #[tactic(auto, unfolding(crate::specs::View::view_arm_in))]
-pub fn view_access(x: &Tables<'_>, sheet: &[u64], operation: u64) -> Verdict
+pub fn view_access(x: &Tables<'_, '_, '_>, sheet: &[u64], operation: u64) -> Verdict
     ensures { result ≡ view_arm sheet.now x.now operation }
 {
     let opcode = x.opcode(operation);

@@ -33,7 +33,7 @@ pub fn check_target(g: Target) -> Answer
 
 // Codes 2, 3 and 4, with counts cut at the sizes.
 fn after_ranges(
-    x: &Tables<'_>,
+    x: &Tables<'_, '_, '_>,
     list: &mut [u64],
     bases: &mut [u64],
     claims: &mut [u64],
@@ -49,7 +49,7 @@ fn after_ranges(
 }
 
 // Code 1 over the tables and the sheet.
-fn check_ranges(x: &Tables<'_>, sheet: &[u64]) -> Answer
+fn check_ranges(x: &Tables<'_, '_, '_>, sheet: &[u64]) -> Answer
     ensures { result ≡ and_then (table_ranges x.now) (sheet_range sheet.now) }
 {
     ranges::check_tables(x)?;
@@ -59,7 +59,7 @@ fn check_ranges(x: &Tables<'_>, sheet: &[u64]) -> Answer
 // The answer of code 1, and where it accepts those of codes 2, 3 and 4. A refusal leaves the list all zero.
 fn settle(
     ranged: Answer,
-    x: &Tables<'_>,
+    x: &Tables<'_, '_, '_>,
     list: &mut [u64],
     bases: &mut [u64],
     claims: &mut [u64],
@@ -81,7 +81,7 @@ fn settle(
 // has the walk order, and cells of full length that held zeros the claims: a caller that does not want the one or the other lends an empty
 // list for it.
 pub fn check_tables(
-    x: &Tables<'_>,
+    x: &Tables<'_, '_, '_>,
     list: &mut [u64],
     bases: &mut [u64],
     claims: &mut [u64],
@@ -93,7 +93,7 @@ pub fn check_tables(
 
 // The same with the sheet as table 8.
 pub fn check_with_sheet(
-    x: &Tables<'_>,
+    x: &Tables<'_, '_, '_>,
     sheet: &[u64],
     list: &mut [u64],
     bases: &mut [u64],

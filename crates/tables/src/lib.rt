@@ -244,21 +244,22 @@ fn counted_span(s: &[u32], count: u64, width: u64, row: u64, column: u64) -> Spa
     Span { start: 0, len: 0 }
 }
 
-// The lent tables, and how many entries of each count. Whatever is lent, each question has its answer.
+// The lent tables, and how many entries of each count. Whatever is lent, each question has its answer. What is handed out of types lives as
+// long as these, a list as long as the list entries, whatever else was lent.
 #[derive(Drop)]
-pub struct Tables<'a> {
-    types: &'a [u64],
+pub struct Tables<'a, 't, 'l> {
+    types: &'t [u64],
     values: &'a [u64],
     operations: &'a [u32],
     attributes: &'a [u32],
     blocks: &'a [u32],
     regions: &'a [u32],
     functions: &'a [u32],
-    entries: &'a [u64],
+    entries: &'l [u64],
     counts: Counts,
 }
 
-impl<'a> Model for Tables<'a> {
+impl<'a, 't, 'l> Model for Tables<'a, 't, 'l> {
     ghost use Rattle.tables.specs.Tables.{Tables};
 
     ghost Value = { Tables };
@@ -266,19 +267,19 @@ impl<'a> Model for Tables<'a> {
     ghost view = { λ a. record { t = a.types.now; v = a.values.now; o = a.operations.now; a = a.attributes.now; b = a.blocks.now; r = a.regions.now; f = a.functions.now; l = a.entries.now; counts = a.counts } };
 }
 
-impl<'a> Tables<'a> {
+impl<'a, 't, 'l> Tables<'a, 't, 'l> {
     // The tables T, V, O, A, B, R, F and the list entries.
     pub fn new(
-        types: &'a [u64],
+        types: &'t [u64],
         values: &'a [u64],
         operations: &'a [u32],
         attributes: &'a [u32],
         blocks: &'a [u32],
         regions: &'a [u32],
         functions: &'a [u32],
-        entries: &'a [u64],
+        entries: &'l [u64],
         counts: Counts,
-    ) -> Tables<'a>
+    ) -> Tables<'a, 't, 'l>
         ensures { result ≡ record { t = types.now; v = values.now; o = operations.now; a = attributes.now; b = blocks.now; r = regions.now; f = functions.now; l = entries.now; counts = counts } }
     {
         Tables {
@@ -301,7 +302,7 @@ impl<'a> Tables<'a> {
     }
 
     // The cells of each table as they were lent, and the list entries.
-    pub fn type_cells(&self) -> &'a [u64]
+    pub fn type_cells(&self) -> &'t [u64]
         ensures { result.now ≡ self.now.t }
     {
         self.types
@@ -343,14 +344,14 @@ impl<'a> Tables<'a> {
         self.functions
     }
 
-    pub fn entries(&self) -> &'a [u64]
+    pub fn entries(&self) -> &'l [u64]
         ensures { result.now ≡ self.now.l }
     {
         self.entries
     }
 
     // The same tables, with counts that no size is passed by.
-    pub fn cut(&self) -> Tables<'a>
+    pub fn cut(&self) -> Tables<'a, 't, 'l>
         ensures { result ≡ cut self.now }
     {
         Tables {
@@ -428,7 +429,7 @@ impl<'a> Tables<'a> {
         self.operation_list(operation, 1)
     }
 
-    pub fn result_types(&self, operation: u64) -> &'a [u64]
+    pub fn result_types(&self, operation: u64) -> &'l [u64]
         ensures { result.now ≡ result_types self.now operation }
     {
         cells::entries(self.entries, self.result_types_span(operation))
@@ -440,7 +441,7 @@ impl<'a> Tables<'a> {
         self.operation_list(operation, 3)
     }
 
-    pub fn operands(&self, operation: u64) -> &'a [u64]
+    pub fn operands(&self, operation: u64) -> &'l [u64]
         ensures { result.now ≡ operands self.now operation }
     {
         cells::entries(self.entries, self.operands_span(operation))
@@ -452,7 +453,7 @@ impl<'a> Tables<'a> {
         self.operation_list(operation, 5)
     }
 
-    pub fn regions(&self, operation: u64) -> &'a [u64]
+    pub fn regions(&self, operation: u64) -> &'l [u64]
         ensures { result.now ≡ regions self.now operation }
     {
         cells::entries(self.entries, self.regions_span(operation))
@@ -485,7 +486,7 @@ impl<'a> Tables<'a> {
         self.block_list(block, 0)
     }
 
-    pub fn arguments(&self, block: u64) -> &'a [u64]
+    pub fn arguments(&self, block: u64) -> &'l [u64]
         ensures { result.now ≡ arguments self.now block }
     {
         cells::entries(self.entries, self.arguments_span(block))
@@ -497,7 +498,7 @@ impl<'a> Tables<'a> {
         self.block_list(block, 2)
     }
 
-    pub fn operations(&self, block: u64) -> &'a [u64]
+    pub fn operations(&self, block: u64) -> &'l [u64]
         ensures { result.now ≡ operations self.now block }
     {
         cells::entries(self.entries, self.operations_span(block))
@@ -510,7 +511,7 @@ impl<'a> Tables<'a> {
         counted_span(self.regions, self.counts.regions, REGION_CELLS, region, 0)
     }
 
-    pub fn blocks(&self, region: u64) -> &'a [u64]
+    pub fn blocks(&self, region: u64) -> &'l [u64]
         ensures { result.now ≡ blocks self.now region }
     {
         cells::entries(self.entries, self.blocks_span(region))
@@ -604,7 +605,7 @@ impl<'a> Tables<'a> {
     }
 
     // As many dims as the rank says, and no more than eight.
-    pub fn type_dims(&self, id: u64) -> &'a [u64]
+    pub fn type_dims(&self, id: u64) -> &'t [u64]
         ensures { result.now ≡ type_dims self.now id }
     {
         cells::part_at(
@@ -641,7 +642,7 @@ impl<'a> Tables<'a> {
         )
     }
 
-    pub fn attribute_numbers(&self, attribute: u64) -> &'a [u64]
+    pub fn attribute_numbers(&self, attribute: u64) -> &'l [u64]
         ensures { result.now ≡ attribute_numbers self.now attribute }
     {
         cells::entries(self.entries, self.attribute_numbers_span(attribute))

@@ -96,7 +96,7 @@ fn row_tile(form: u64, row: &[u64]) -> Tile
 
 // The cells of a type, as far as they go; none of an id that is no type.
 #[tactic(auto, unfolding(crate::specs::Tile::cells_of))]
-fn type_row<'a>(x: &Tables<'a>, id: u64) -> &'a [u64]
+fn type_row<'t>(x: &Tables<'_, 't, '_>, id: u64) -> &'t [u64]
     ensures { result.now ≡ cells_of x.now.t x.now.counts id }
 {
     if id < x.counts().types {
@@ -113,7 +113,7 @@ fn type_row<'a>(x: &Tables<'a>, id: u64) -> &'a [u64]
 
 // The cells of a type that is a tile; none of any other.
 #[tactic(auto, using(crate::proofs::Rows::seen_by))]
-pub fn seen_row<'a>(x: &Tables<'a>, sheet: &[u64], id: u64) -> &'a [u64]
+pub fn seen_row<'t>(x: &Tables<'_, 't, '_>, sheet: &[u64], id: u64) -> &'t [u64]
     ensures { result.now ≡ seen_in x.now.t sheet.now x.now.counts id }
 {
     let row = type_row(x, id);
@@ -134,7 +134,7 @@ pub fn tile_of(row: &[u64]) -> Tile
 
 // The tile that a view takes and gives.
 #[tactic(auto, using(crate::proofs::Rows::form_at), unfolding(crate::specs::Tile::view_in))]
-pub fn view_tile(x: &Tables<'_>, id: u64) -> Tile
+pub fn view_tile(x: &Tables<'_, '_, '_>, id: u64) -> Tile
     ensures { result ≡ view_in x.now.t x.now.counts id }
 {
     let row = type_row(x, id);

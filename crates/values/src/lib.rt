@@ -41,14 +41,14 @@ fn cut_sum(a: u64, b: u64) -> u64
 }
 
 // How many results the operation declares.
-fn result_count(x: &Tables<'_>, operation: u64) -> u64
+fn result_count(x: &Tables<'_, '_, '_>, operation: u64) -> u64
     ensures { result ≡ length (result_types x.now operation) }
 {
     x.result_types(operation).len() as u64
 }
 
 // Where the results of each operation start among all, and how many there are.
-fn fill_bases(x: &Tables<'_>, bases: &mut [u64]) -> u64
+fn fill_bases(x: &Tables<'_, '_, '_>, bases: &mut [u64]) -> u64
     ensures total { result ≡ base_of x.now x.now.counts.operations }
     ensures written { bases.new ≡ bases_after x.now bases.old }
 {
@@ -62,7 +62,13 @@ fn fill_bases(x: &Tables<'_>, bases: &mut [u64]) -> u64
 
 // A number at the cell of the declared result that is claimed.
 #[tactic(auto, unfolding(crate::specs::Claims::put_claim))]
-fn put_claim(x: &Tables<'_>, bases: &[u64], claims: &mut [u64], number: u64, claim: Option<Claim>)
+fn put_claim(
+    x: &Tables<'_, '_, '_>,
+    bases: &[u64],
+    claims: &mut [u64],
+    number: u64,
+    claim: Option<Claim>,
+)
     ensures { claims.new ≡ put_claim (declared x.now) bases.now number claim claims.old }
 {
     let Some(Claim { operation, index }) = claim else {
@@ -75,7 +81,7 @@ fn put_claim(x: &Tables<'_>, bases: &[u64], claims: &mut [u64], number: u64, cla
 }
 
 // One more than the lowest value that claims it, for each declared result that is claimed.
-fn fill_claims(x: &Tables<'_>, bases: &[u64], claims: &mut [u64])
+fn fill_claims(x: &Tables<'_, '_, '_>, bases: &[u64], claims: &mut [u64])
     ensures { claims.new ≡ claims_after x.now bases.now claims.old }
 {
     for value in (0..x.counts().values).rev() {
@@ -86,7 +92,7 @@ fn fill_claims(x: &Tables<'_>, bases: &[u64], claims: &mut [u64])
 // Whether a value is defined twice that is listed so many times and claims what is said.
 #[tactic(auto, unfolding(crate::specs::Claims::seen_twice))]
 fn seen_twice(
-    x: &Tables<'_>,
+    x: &Tables<'_, '_, '_>,
     claims: Claims<'_>,
     times: u64,
     number: u64,
@@ -111,7 +117,7 @@ fn seen_twice(
 
 // The lowest value that is seen to be defined twice.
 #[tactic(auto, using(listed::proofs::Find::find_step), unfolding(crate::specs::Claims::lowest_seen))]
-fn lowest_seen(x: &Tables<'_>, marks: &[u64], claims: Claims<'_>) -> Answer
+fn lowest_seen(x: &Tables<'_, '_, '_>, marks: &[u64], claims: Claims<'_>) -> Answer
     ensures { result ≡ refused (lowest_seen x.now marks.now claims.entry.bases.now claims.entry.claims.now) }
 {
     for value in 0..x.counts().values {
@@ -125,7 +131,7 @@ fn lowest_seen(x: &Tables<'_>, marks: &[u64], claims: Claims<'_>) -> Answer
 
 // The lowest value that is defined twice, where the lent cells have room. Where code 1 passed, no more results are declared than there may
 // be list entries.
-fn claim_values(x: &Tables<'_>, bases: &mut [u64], claims: &mut [u64]) -> Answer
+fn claim_values(x: &Tables<'_, '_, '_>, bases: &mut [u64], claims: &mut [u64]) -> Answer
     ensures { max_operations ≤ length bases.old → max_entries ≤ length claims.old → Claimed result (cut x.now) bases.old claims.old bases.new claims.new }
 {
     let x = x.cut();
@@ -139,7 +145,7 @@ fn claim_values(x: &Tables<'_>, bases: &mut [u64], claims: &mut [u64]) -> Answer
 }
 
 // The answer alone, with cells of its own.
-fn answer_alone(x: &Tables<'_>) -> Answer
+fn answer_alone(x: &Tables<'_, '_, '_>) -> Answer
     ensures { result ≡ guarded_twice (cut x.now) }
 {
     let mut bases = [0u64; 2048];
@@ -149,7 +155,7 @@ fn answer_alone(x: &Tables<'_>) -> Answer
 
 // The lowest value that is defined twice, whatever is lent; cells of full length that held zeros keep where results start and which value
 // claims each.
-pub fn values_claimed(x: &Tables<'_>, bases: &mut [u64], claims: &mut [u64]) -> Answer
+pub fn values_claimed(x: &Tables<'_, '_, '_>, bases: &mut [u64], claims: &mut [u64]) -> Answer
     ensures { Claimed result (cut x.now) bases.old claims.old bases.new claims.new }
 {
     if (bases.len() as u64) < tables::MAX_OPERATIONS {

@@ -23,7 +23,7 @@ fn push_id(out: &mut [u64], used: u64, id: u64) -> u64
 // Region id of operation owner: its blocks in order, where a depth is left for them.
 #[cycle(visit_block_visit_operation_visit_region)]
 fn visit_region(
-    x: &Tables<'_>,
+    x: &Tables<'_, '_, '_>,
     out: &mut [u64],
     used: u64,
     depth: u64,
@@ -49,7 +49,7 @@ fn visit_region(
 // Block id: its operations in order.
 #[cycle(visit_block_visit_operation_visit_region)]
 fn visit_block(
-    x: &Tables<'_>,
+    x: &Tables<'_, '_, '_>,
     out: &mut [u64],
     used: u64,
     depth: u64,
@@ -72,7 +72,7 @@ fn visit_block(
 // Operation id, then its regions in order.
 #[cycle(visit_block_visit_operation_visit_region)]
 fn visit_operation(
-    x: &Tables<'_>,
+    x: &Tables<'_, '_, '_>,
     out: &mut [u64],
     used: u64,
     depth: u64,
@@ -88,7 +88,7 @@ fn visit_operation(
 }
 
 // The functions in order.
-fn visit_functions(x: &Tables<'_>, out: &mut [u64]) -> Result<u64, Refusal>
+fn visit_functions(x: &Tables<'_, '_, '_>, out: &mut [u64]) -> Result<u64, Refusal>
     ensures { Visited result out.new (filled out.old 0) (too_deep x.now) (order x.now) }
 {
     let mut next = 0;
@@ -99,7 +99,7 @@ fn visit_functions(x: &Tables<'_>, out: &mut [u64]) -> Result<u64, Refusal>
 }
 
 // Every reachable operation in walk order, as far as out has room, and how many were written; a refusal leaves out all zero.
-pub fn walk_order(x: &Tables<'_>, out: &mut [u64]) -> Result<u64, Refusal>
+pub fn walk_order(x: &Tables<'_, '_, '_>, out: &mut [u64]) -> Result<u64, Refusal>
     ensures result_value { told result ≡ too_deep x.now }
     ensures result_after { filled out.new (wrote result) ≡ walked (too_deep x.now) out.old (order x.now) }
 {
