@@ -151,9 +151,7 @@ pub extern "C" fn lavrindes_read_back(
     ensures answer { answer.new ≡ noted (told (read_back_alone (nest o.now b.now r.now f.now l.now (counts_of counts.now)) numbers.now places.old).answer) answer.old }
 {
     let n = answers::counts_of(counts);
-    // It asks nothing of types, values and attributes.
-    let x = Tables::new(&[], &[], o, &[], b, r, f, l, n);
-    let said = read_back::read_back(&x, numbers, places);
+    let said = read_back::read_back(o, b, r, f, l, n, numbers, places);
     answers::note_answer(said, answer);
 }
 

@@ -119,5 +119,5 @@ pub fn read_lists(
             place: 0,
         });
     }
-    read_back::read_back(&x, numbers, places)
+    read_back::read_back(o, b, r, f, l, n, numbers, places)
 }

@@ -3,6 +3,7 @@
 
 ghost use Rattle.std.specs.Prelude.{◌≡◌, List, [], map, ℕ, ◌<◌, take, length};
 ghost use Rattle.cells.specs.Lists.{below};
+ghost use Rattle.tables.specs.Tables.{nest};
 ghost use Rattle.tables.specs.declared.Place.{Place};
 ghost use Rattle.nesting.specs.Shape.{visit};
 ghost use Rattle.nesting.specs.Live.{placed, nth};
@@ -12,7 +13,7 @@ ghost use Rattle.read_back.specs.Live.{grow, grow_all, place_in};
 ghost use Rattle.read_back.specs.Stage.{staged, start, put_place, read_next, read_all, use_of, judged_all, region_uses, block_uses, inside_uses, entry_uses, entries_uses, Went};
 
 use std::marker::Model;
-use tables::{Answer, Place, Refusal, Tables};
+use tables::{Answer, Counts, Place, Refusal, Tables};
 
 // A place takes this many cells.
 const PLACE_CELLS: u64 = 3;
@@ -247,7 +248,7 @@ pub fn read_all(x: &Tables<'_, '_, '_>, numbers: &[u64], places: &mut [u64]) -> 
 }
 
 // The numbers are judged first: a refusal leaves the list of places as it was.
-pub fn read_back(x: &Tables<'_, '_, '_>, numbers: &[u64], places: &mut [u64]) -> Answer
+fn read_over(x: &Tables<'_, '_, '_>, numbers: &[u64], places: &mut [u64]) -> Answer
     ensures { outcome result places.new ≡ read_back_alone x.now numbers.now places.old }
 {
     nesting_check::check_nesting(x)?;
@@ -258,4 +259,21 @@ pub fn read_back(x: &Tables<'_, '_, '_>, numbers: &[u64], places: &mut [u64]) ->
         return Err(Refusal::TooShort { needed });
     }
     read_all(x, numbers, places)
+}
+
+// Types, values and attributes are not lent.
+pub fn read_back(
+    o: &[u32],
+    b: &[u32],
+    r: &[u32],
+    f: &[u32],
+    l: &[u64],
+    n: Counts,
+    numbers: &[u64],
+    places: &mut [u64],
+) -> Answer
+    ensures { outcome result places.new ≡ read_back_alone (nest o.now b.now r.now f.now l.now n) numbers.now places.old }
+{
+    let x = Tables::new(&[], &[], o, &[], b, r, f, l, n);
+    read_over(&x, numbers, places)
 }

@@ -1,9 +1,7 @@
 -- `read_lists` meets its contract.
 use mathlib.Core.Path.{sym, ap, ◌∙◌}
 use Rattle.std.proofs.lemmas.Result.{err_from_is_err_and}
-use Rattle.tables.specs.Tables.{Tables}
 use Rattle.nesting_check.specs.Checks.{nesting_checks}
-use Rattle.read_back.specs.Alone.{read_back_alone}
 use Rattle.number_lists.proofs.Laws.{checks_stop, lengths_stop, all_read}
 use Rattle.number_lists.proofs.read_lists.Goals as goal
 
@@ -26,7 +24,6 @@ pub returns : goal.returns
 returns c =
     let a = c.args in
     c.read_back.ensures
-    ∙ ap (λ (x : Tables). read_back_alone x a.numbers.now a.places.now) c.nest-x.ensures
     ∙ all_read a.o.now a.b.now a.r.now a.f.now a.l.now a.n a.numbers.now a.lengths.now a.places.now _
     (c.check_nesting.ensures ∙ ap nesting_checks c.nest-x.ensures) c.in_ok-check_nesting.was
     (sym c.lists_fit.ensures ∙ c.if-not-lists_fit.false)

@@ -1,8 +1,8 @@
--- `read_back`: the checks, a walk that judges, room, and a walk that writes. Assumes nothing.
+-- `read_over`: the checks, a walk that judges, room, and a walk that writes. Assumes nothing.
 use Rattle.std.proofs.Common.{rules, ◌≡◌}
 use Rattle.std.specs.Prelude.{Err}
 use Rattle.read_back.proofs.Turns.{checks_stop, judged_stop, short_stop, whole_read}
-use Rattle.read_back.proofs.read_back.Goals as goal
+use Rattle.read_back.proofs.read_over.Goals as goal
 
 pub returns-in_err-check_nesting : goal.returns-in_err-check_nesting
 returns-in_err-check_nesting c =
