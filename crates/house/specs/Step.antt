@@ -67,7 +67,7 @@ first_reading q =
 abbrev pub refusing : Refusal → Reading
 refusing q = first_reading (Err q)
 
--- the number of a kind's table, and its count; a header has none
+-- the number of a kind's table, and its count; a header has no table, and is counted with the functions
 abbrev pub table_of : Kind → ℕ
 table_of Header = 0
 table_of «Type» = type_table
@@ -79,7 +79,7 @@ table_of Region = region_table
 table_of Function = function_table
 
 abbrev pub count_of : Counts → Kind → ℕ
-count_of n Header = 0
+count_of n Header = n.functions
 count_of n «Type» = n.types
 count_of n Value = n.values
 count_of n Operation = n.operations

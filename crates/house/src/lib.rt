@@ -126,7 +126,7 @@ fn full(n: Counts, kind: Kind) -> Refusal
     ensures { result ≡ OutOfRange (table_of kind) (count_of n kind) }
 {
     let (table, entry) = match kind {
-        Kind::Header => (0, 0),
+        Kind::Header => (0, n.functions),
         Kind::Type => (tables::TYPE_TABLE, n.types),
         Kind::Value => (tables::VALUE_TABLE, n.values),
         Kind::Operation => (tables::OPERATION_TABLE, n.operations),
