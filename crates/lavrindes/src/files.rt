@@ -14,7 +14,9 @@ pub fn word_room() -> [u8; MOST_WORD] {
 }
 
 // The word at a position, as many bytes as it has; none where there is no such word or it is too long.
-pub fn word_at<'a>(rt: &HostRuntime, word: usize, room: &'a mut [u8]) -> &'a [u8] {
+pub fn word_at<'a>(rt: &HostRuntime, word: usize, room: &'a mut [u8]) -> &'a [u8]
+    ensures { length result.now ≤ length room.old }
+{
     let length = rt.arg(word, room).unwrap_or(0);
     &room[..length]
 }
