@@ -48,27 +48,32 @@ pub fn usage(rt: &HostRuntime) -> io::Result<()> {
     )
 }
 
-// A path is bytes, so it is written as it stands.
+// A path is bytes, so it is written as it stands. Each part is tried, whatever became of the one before.
 pub fn unreadable(rt: &HostRuntime, path: &[u8]) -> io::Result<()> {
-    eprint!(rt; "lavrindes: cannot read ")?;
-    rt.stderr().write_all(path)?;
-    eprintln!(rt; "; name a file that is there and may be read, or - for standard input")
+    let begun = eprint!(rt; "lavrindes: cannot read ");
+    let named = rt.stderr().write_all(path);
+    let ended = eprintln!(rt;
+        "; name a file that is there and may be read, or - for standard input"
+    );
+    begun.and(named).and(ended)
 }
 
+// Each line is tried, whatever became of those before.
 pub fn help(rt: &HostRuntime) -> io::Result<()> {
-    println!(rt;
+    let check = println!(rt;
         "lavrindes check MODULE SHEET        ok and the numbers of each function's operands, or the first refusal"
-    )?;
-    println!(rt;
+    );
+    let part = println!(rt;
         "lavrindes part NAME MODULE SHEET    one part alone: tables, dominance, numbering, requirements or rules"
-    )?;
-    println!(rt;
+    );
+    let places = println!(rt;
         "lavrindes places MODULE NUMBERS     numbers read back: kind, id and index of each operand's place"
-    )?;
-    println!(rt; "lavrindes help | version")?;
-    println!(rt;
+    );
+    let others = println!(rt; "lavrindes help | version");
+    let files = println!(rt;
         "A file named - is standard input. The first line is ok or no with code, id and detail."
-    )
+    );
+    check.and(part).and(places).and(others).and(files)
 }
 
 pub fn version(rt: &HostRuntime) -> io::Result<()> {
