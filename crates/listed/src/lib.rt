@@ -36,7 +36,7 @@ pub fn mark_list(xs: &[u64], marks: &mut [u64])
 }
 
 // One more of each entry of each of so many lists.
-pub fn mark_lists<'a, F: Fn(u64) -> &'a [u64]>(count: u64, list: F, marks: &mut [u64])
+fn mark_lists<'a, F: Fn(u64) -> &'a [u64]>(count: u64, list: F, marks: &mut [u64])
     requires { F.IsAlwaysCallable list }
     ensures { (entries : ℕ → List ℕ) → ((i : ℕ) (r : _) → i < count → F.post list i r → r.now ≡ entries i) → marks.new ≡ mark_all marks.old (flat entries (below count)) }
 {

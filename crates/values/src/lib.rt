@@ -2,8 +2,10 @@
 #![tactic(auto)]
 
 ghost use Rattle.std.specs.Prelude.{◌≡◌, ◌+◌, ◌≤◌, min, length, get_or};
+ghost use Rattle.cells.specs.Lists.{below, flat};
 ghost use Rattle.tables.specs.Sizes.{max_operations, max_entries};
-ghost use Rattle.tables.specs.Tables.{cut, declared, result_types};
+ghost use Rattle.tables.specs.Tables.{cut, declared, arguments, result_types};
+ghost use Rattle.listed.specs.Marks.{mark_all};
 ghost use Rattle.values.specs.Guarded.{guarded_twice, Claimed};
 ghost use Rattle.values.specs.Claims.{base_of, bases_after, put_claim, claims_after, value_in, seen_twice, lowest_seen};
 ghost use Rattle.values.specs.Twice.{refused};
@@ -89,6 +91,15 @@ fn fill_claims(x: &Tables<'_, '_, '_>, bases: &[u64], claims: &mut [u64])
     }
 }
 
+// One more of each argument of each block.
+fn mark_arguments(x: &Tables<'_, '_, '_>, marks: &mut [u64])
+    ensures { marks.new ≡ mark_all marks.old (flat (arguments x.now) (below x.now.counts.blocks)) }
+{
+    for j in 0..x.counts().blocks {
+        listed::mark_list(x.arguments(j), marks);
+    }
+}
+
 // Whether a value is defined twice that is listed so many times and claims what is said.
 #[tactic(auto, unfolding(crate::specs::Claims::seen_twice))]
 fn seen_twice(
@@ -139,7 +150,7 @@ fn claim_values(x: &Tables<'_, '_, '_>, bases: &mut [u64], claims: &mut [u64]) -
         return Ok(());
     }
     let mut marks = [0u64; 4096];
-    listed::mark_lists(x.counts().blocks, |j| x.arguments(j), &mut marks);
+    mark_arguments(&x, &mut marks);
     fill_claims(&x, bases, claims);
     lowest_seen(&x, &marks, Claims { bases, claims })
 }
