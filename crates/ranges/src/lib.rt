@@ -119,7 +119,7 @@ impl Pass {
     }
 
     // Whether entry i is within the size of its table and whole among the cells lent.
-    fn stands(&self, i: u64) -> bool
+    pub fn stands(&self, i: u64) -> bool
         ensures { result ≡ stands_in self.now i }
     {
         if self.width == 0 {
@@ -129,7 +129,7 @@ impl Pass {
     }
 
     // The first entry that does not stand or is not good.
-    pub fn first_bad<F: Fn(u64) -> bool>(&self, good: F) -> Answer
+    fn first_bad<F: Fn(u64) -> bool>(&self, good: F) -> Answer
         requires { F.IsAlwaysCallable good }
         ensures { (p : ℕ → Bool) → ((i : ℕ) (r : Bool) → i < self.now.count → F.post good i r → r ≡ p i) → result ≡ first_of self.now p }
     {
@@ -146,7 +146,7 @@ impl Pass {
 
     // Of a table that holds lists, by what each entry's lists add to those before: the list entries up to its end, or its first entry that
     // does not stand, is not good or has no room.
-    pub fn scan<F: Fn(u64) -> bool, L: Fn(u64) -> u64>(
+    fn scan<F: Fn(u64) -> bool, L: Fn(u64) -> u64>(
         &self,
         before: u64,
         good: F,
@@ -181,7 +181,7 @@ fn fits(start: u64, len: u64, total: u64) -> bool
 }
 
 // The list entries with so many more, or one more than there may be where they would pass that.
-fn add_list(used: u64, len: u64) -> u64
+pub fn add_list(used: u64, len: u64) -> u64
     ensures { result ≡ min (used + len) (suc max_entries) }
 {
     used.saturating_add(len).min(tables::MAX_ENTRIES + 1)

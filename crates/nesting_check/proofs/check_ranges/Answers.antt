@@ -1,10 +1,12 @@
 -- `check_ranges`: the four tables in turn. Assumes nothing.
+use mathlib.Core.Path.{sym, ◌∙◌}
 use Rattle.std.proofs.Common.{rules, ◌≡◌, ltb}
 use Rattle.std.specs.Prelude.{Err}
 use lib.ListN.{get_or}
 use Rattle.tables.specs.Tables.{functions}
 use Rattle.ranges.specs.Entry.{good_region}
 use Rattle.ranges.specs.Range.{listed_by_operation, listed_by_block, listed_by_region}
+use Rattle.ranges.proofs.Verdict.{first_is}
 use Rattle.nesting_check.specs.Checks.{nested_operation, nested_block}
 use Rattle.nesting_check.proofs.Ranged.{operations_stop, blocks_stop, regions_stop, functions_end}
 use Rattle.nesting_check.proofs.check_ranges.Goals as goal
@@ -45,4 +47,4 @@ returns c =
     c.in_ok-used-2.used c.in_ok-used-2.was
     c.scan-3.result (rw c.regions.ensures at (c.scan-3.ensures (good_region x) (listed_by_region x) (λ i r h q. search rules) (λ i r h q. search rules)))
     c.in_ok-scan.field-0 c.in_ok-scan.was
-    c.first_bad.result (rw c.functions.ensures at (c.first_bad.ensures (λ p. ltb (get_or (functions x) p 0) x.counts.operations) (λ i r h q. search rules)))
+    c.check_functions.result (c.check_functions.ensures ∙ sym (first_is 7 64 1 x.f x.counts.functions (λ p. ltb (get_or (functions x) p 0) x.counts.operations)))
