@@ -3,7 +3,7 @@ use Prim.Native.Nat.{ℕ}
 use native.Mathlib.Omega.{arith}
 use mathlib.Core.Path.{◌≡◌, refl, sym, ap, ◌∙◌}
 use mathlib.Core.List.{List, []}
-use Rattle.tables.specs.Tables.{Tables}
+use Rattle.tables.specs.Tables.{Tables, lent}
 use Rattle.tables.specs.Answer.{and_then, Answer}
 use Rattle.tables.specs.declared.Target.{Target}
 use Rattle.std.specs.Prelude.{Ok, Err}
@@ -14,7 +14,9 @@ use Rattle.nesting.specs.Dominance.{dominance}
 use Rattle.nesting.specs.Numbering.{Listing, fine, refused, numbering}
 use Rattle.numbering.specs.Alone.{Numbered, Outcome, outcome, sizes, handed, filled_by, after_checks}
 use Rattle.capabilities.specs.Ask.{capabilities}
+use Rattle.capability_check.proofs.Bare.{bare_order}
 use Rattle.rules.specs.Operation.{rules}
+use Rattle.rule_check.proofs.Bare.{rules_bare}
 use Rattle.full_check.specs.Full.{refusal_of, parts, refusals, full_check}
 
 -- ---- what numbering answered over lists of its own
@@ -34,6 +36,22 @@ module _ (ns all each held₁ held₂ : List ℕ) {w : Numbered} where
   numbering_goes (refused r) {m} e ew =
       let q : ◌≡◌ {A = Numbered} (Ok m) (Err r) = sym ew ∙ ap (λ (o : Outcome). o.answer) e in
       absurd (let z : ◌≡◌ {A = ℕ} 0 1 = cc in omega arith)
+
+-- ---- the operations: they read no block, region or function
+
+module _ (g : Target) (sheet : List ℕ) (x : Tables) (is : List ℕ) (e : is ≡ order x) where
+  abbrev over_bare : Answer
+  over_bare =
+      let y = lent x.t x.v x.o x.a [] [] [] x.l x.counts in
+      and_then (capabilities g y is) (rules g.version sheet y is)
+
+  abbrev over : Answer
+  over = and_then (capabilities g x (order x)) (rules g.version sheet x (order x))
+
+  pub over_is : over_bare ≡ over
+  over_is =
+      ap (λ (a : Answer). and_then a (rules g.version sheet (lent x.t x.v x.o x.a [] [] [] x.l x.counts) is)) (bare_order g x is (order x) e)
+      ∙ ap (and_then (capabilities g x (order x))) (rules_bare g.version sheet x is ∙ ap (rules g.version sheet x) e)
 
 -- ---- in turn
 

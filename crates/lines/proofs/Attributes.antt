@@ -5,7 +5,7 @@ use mathlib.Core.List.{List, [], ◌∷◌}
 use mathlib.Core.Path.{◌≡◌, refl, sym, ◌∙◌, ap}
 use native.Mathlib.Omega.{arith}
 use lib.Dec.{ltb}
-use lib.ListN.{length, set}
+use lib.ListN.{length, get_or, set}
 use lib.Seq.{sets}
 use borrow.Author.Tests.{eq-eqb, ne_eqb}
 use Rattle.std.specs.Prelude.{Option, Some, None, Result, Ok, Err}
@@ -32,6 +32,15 @@ letter_long : (s : List ℕ) → (length s ≡ 1 → ⊥) → 9 ≡ form_of s
 letter_long [] h = refl
 letter_long (x ∷ []) h = absurd (h refl)
 letter_long (x ∷ y ∷ s) h = simp and_false
+
+-- one letter that is none of the nine: no form
+pub letter_other : (s : List ℕ) → length s ≡ 1 → (get_or s 0 0 ≡ 105 → ⊥) → (get_or s 0 0 ≡ 98 → ⊥) → (get_or s 0 0 ≡ 97 → ⊥)
+    → (get_or s 0 0 ≡ 122 → ⊥) → (get_or s 0 0 ≡ 112 → ⊥) → (get_or s 0 0 ≡ 100 → ⊥) → (get_or s 0 0 ≡ 115 → ⊥) → (get_or s 0 0 ≡ 114 → ⊥)
+    → (get_or s 0 0 ≡ 120 → ⊥) → 9 ≡ form_of s
+letter_other [] l hi hb ha hz hp hd hs hr hx = absurd (omega arith)
+letter_other (x ∷ []) l hi hb ha hz hp hd hs hr hx =
+    rw (ne_eqb x 105 hi, ne_eqb x 98 hb, ne_eqb x 97 ha, ne_eqb x 122 hz, ne_eqb x 112 hp, ne_eqb x 100 hd, ne_eqb x 115 hs, ne_eqb x 114 hr, ne_eqb x 120 hx)
+letter_other (x ∷ y ∷ s) l hi hb ha hz hp hd hs hr hx = absurd (omega arith)
 
 -- a letter that names no form
 pub form_long : (s : List ℕ) → (length s ≡ 1 → ⊥) → None ≡ form_in s

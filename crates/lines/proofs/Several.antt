@@ -1,21 +1,55 @@
--- Lines with lists, which stand in the entries one after the other: `O`, `B`, `R`.
+-- Lines with lists, which stand in the entries one after the other: `O`, `B`, `R`; and how many numbers a list has at most.
 use Rattle.std.specs.Prelude.{Option, Some, None, Result}
 use Rattle.std.specs.Option.{ok_or}
 use Prim.Native.Nat.{ℕ, ◌+◌, ◌≤◌, min}
+use mathlib.Core.Bool.{Bool, true, false, cond}
 use mathlib.Core.List.{List, [], ◌∷◌, ◌++◌, append-nil}
 use mathlib.Core.Path.{◌≡◌, refl, sym, ◌∙◌, ap}
 use native.Mathlib.Omega.{arith}
+use lib.Dec.{eqb}
 use lib.ListN.{length}
 use lib.Seq.{sets, length-sets}
-use Rattle.fields.specs.Cut.{nth}
+use Rattle.fields.specs.Cut.{split, on_first, nth}
 use Rattle.lines.specs.Field.{says, list, one_of, id32, list_of}
 use Rattle.lines.specs.Line.{operation_line, block_line, region_line}
-use Rattle.lines.specs.Into.{good_of, count_of, Left, left, list_into}
+use Rattle.lines.specs.Into.{onto, good_items, good_of, count_of, Left, left, list_into}
 use Rattle.lines.specs.Answer.{bad_field, if_read, if_number, good_lists, operation_of, operation_numbers, operation_into, block_of, block_numbers, block_into, region_of, region_numbers, region_into}
 use Rattle.lines.specs.declared.BadField.{BadField}
 use Rattle.lines.specs.declared.BlockLine.{BlockLine}
 use Rattle.lines.specs.declared.OperationLine.{OperationLine}
 use Rattle.lines.proofs.Lists.{sets_far, sets_append, list_good, list_count, list_bad, counted}
+
+-- ---- a list has at most one number more than its field has bytes
+
+parts_few : (b : ℕ) (s : List ℕ) → length (split b s) ≤ length s + 1
+unfolding split on_first
+parts_few b [] = omega arith
+parts_few b (x ∷ s) = by (eqb x b) (split b s) (parts_few b s)
+  where
+    by : (t : Bool) (ps : List (List ℕ)) → length ps ≤ length s + 1 → length (cond t ([] ∷ ps) (on_first x ps)) ≤ length (x ∷ s) + 1
+    by true ps h = omega arith
+    by false [] h = omega arith
+    by false (p ∷ ps) h = omega arith
+
+items_few : (f : List ℕ → Option ℕ) (ss : List (List ℕ)) → length (good_items f ss) ≤ length ss
+items_few f [] = omega arith
+items_few f (s ∷ ss) = by (f s) (items_few f ss)
+  where
+    by : (n : Option ℕ) → length (good_items f ss) ≤ length ss → length (onto n (good_items f ss)) ≤ length (s ∷ ss)
+    by None h = omega arith
+    by (Some n) h = omega arith
+
+good_few : (f : List ℕ → Option ℕ) (s : List ℕ) → length (good_of f s) ≤ length s + 1
+unfolding good_of
+good_few f [] = omega arith
+good_few f (b ∷ bs) = omega (arith, items_few f (split 44 (b ∷ bs)), parts_few 44 (b ∷ bs))
+
+pub count_few : (f : List ℕ → Option ℕ) (at : ℕ) (s l w : List ℕ) (r : Option ℕ) (n : ℕ) → r ≡ Some n → left r w ≡ list_into f at s l → n ≤ length s + 1
+count_few f at s l w r n k e =
+    let h = list_count f at s l w n (ap (λ (x : Option ℕ). left x w) (sym k) ∙ e) in
+    let few = good_few f s in
+    let same : length (good_of f s) ≡ n = ap length (list_good f s h.0 h.1.0) ∙ h.1.1 in
+    omega arith
 
 -- ---- what is written of lists one after the other
 module _ (f : List ℕ → Option ℕ) (p : List ℕ) (ps : List (List ℕ)) where

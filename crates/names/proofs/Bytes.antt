@@ -1,15 +1,17 @@
--- The search for the first name that has the bytes, as `position` answers it.
-use mathlib.Core.Path.{◌≡◌, refl, ap, ◌∙◌}
+-- The search for the first name that has the bytes, as `position` answers it; and what the name of a number is, none past the last.
+use mathlib.Core.Path.{◌≡◌, refl, ap, sym, ◌∙◌}
 use mathlib.Core.List.{List, [], ◌∷◌, map}
 use mathlib.Core.Bool.{Bool, true, false, cond, ◌&&◌}
-use Prim.Native.Nat.{ℕ, ◌+◌}
+use Prim.Native.Nat.{ℕ, zero, suc, ◌+◌, ◌≤◌, ◌<◌}
 use native.Mathlib.Numerals.{add-one}
+use native.Mathlib.Omega.{arith}
+use lib.ListN.{get_or, get_or-eq_default}
 use lib.Dec.{eqb}
 use Rattle.std.specs.Prelude.{Option, Some, None}
 use Rattle.std.specs.List.{position, position_from}
 use Rattle.std.proofs.lemmas.Iterator.Adapters.{position_from-zero}
 use Rattle.std.specs.Str.{bytes_eq}
-use Rattle.names.specs.Names.{equal, number_from}
+use Rattle.names.specs.Names.{equal, names, number_from}
 
 equal_is : (xs ys : List ℕ) → bytes_eq xs ys ≡ equal xs ys
 equal_is [] [] = refl
@@ -38,3 +40,25 @@ module _ {A : Type 0} (text : A → List ℕ) (name : List ℕ) where
   -- the number of the place that `position` answers of a list
   pub first_is : {given ns : List A} {r : Option ℕ} → given ≡ ns → r ≡ position has ns → number_at r ≡ number_from 1 (map text ns) name
   first_is {given} {ns} l e = ap number_at (e ∙ position_from-zero has ns) ∙ number_is 0 ns
+
+-- the name with this number; no bytes where there is none
+abbrev pub name_of : ℕ → List ℕ
+name_of number = get_or ([] ∷ names) number []
+
+-- what is said of a number's name is said of the number that equals it
+pub named : {r : Bool} (name : List ℕ) {number k : ℕ} → number ≡ k → r ≡ equal name (name_of k) → r ≡ equal name (name_of number)
+named name e h = h ∙ ap (λ (n : ℕ). equal name (name_of n)) (sym e)
+
+-- a number that is none of 1 to k
+abbrev pub NoneOf : ℕ → ℕ → Type 0
+NoneOf zero number = Unit
+NoneOf (suc k) number = NoneOf k number × (number ≡ suc k → ⊥)
+
+beyond : (k : ℕ) {number : ℕ} → NoneOf k number → 1 ≤ number → k < number
+beyond zero h l = l
+beyond (suc k) h l = let b = beyond k h.0 l in let d = h.1 in omega arith
+
+pub unnamed : (number : ℕ) → NoneOf 13 number → name_of number ≡ []
+unfolding names
+unnamed zero h = refl
+unnamed (suc n) h = let past : 13 < suc n = beyond 13 h (omega arith) in get_or-eq_default names [] {n = n} (omega arith)

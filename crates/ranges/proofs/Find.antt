@@ -1,5 +1,5 @@
 -- Going through the numbers below n: a step and the end of what is left; a search for the first with a property, one
--- number at a time; what a search that finds nothing says; and a test of all. Over any property. Assumes nothing.
+-- number at a time; what a search that finds nothing says, and two that find the same; and a test of all. Over any property. Assumes nothing.
 use mathlib.Core.Path.{◌≡◌, refl, sym, ap, ◌∙◌}
 use mathlib.Core.Bool.{Bool, true, false, ◌&&◌, not, cond, and-eq-true_iff}
 use mathlib.Core.List.{List, [], ◌∷◌}
@@ -42,6 +42,11 @@ all_is p (x ∷ xs) = ap (λ (b : Bool). p x && b) (all_is p xs)
 pub all_from : (p : ℕ → Bool) (s n : ℕ) → list_all p (range_with_len s n) ≡ all p (from s n)
 all_from p s zero = refl
 all_from p s (suc n) = rw (add-one s) (ap (λ (b : Bool). p s && b) (all_from p (suc s) n))
+
+-- two properties that say the same find the same
+pub find_same : (p q : ℕ → Bool) → ((x : ℕ) → p x ≡ q x) → (xs : List ℕ) → find p xs ≡ find q xs
+find_same p q f [] = refl
+find_same p q f (x ∷ xs) = rw (f x, find_same p q f xs)
 
 -- a search among the numbers below n, i of them passed
 module _ (p : ℕ → Bool) (n : ℕ) where

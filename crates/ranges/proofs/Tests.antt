@@ -1,13 +1,20 @@
--- Tests as the code makes them and as the definitions have them. Assumes nothing.
-use mathlib.Core.Path.{◌≡◌}
+-- Tests as the code makes them and as the definitions have them, and what a claim is judged by. Assumes nothing.
+use mathlib.Core.Path.{◌≡◌, refl, ap}
 use mathlib.Core.Bool.{◌&&◌, and_assoc}
 use Prim.Native.Nat.{ℕ, ◌+◌}
 use lib.Dec.{ltb, leb}
+use Rattle.std.specs.Prelude.{Option, Some, None}
 use Rattle.tables.specs.Layout.{result_types_in, operands_in, regions_in, arguments_in, operations_in}
 use Rattle.tables.specs.Sizes.{opcodes}
 use Rattle.tables.specs.Tables.{Tables, opcode, result_types_span, operands_span, regions_span, attributes_span, arguments_span, operations_span}
-use Rattle.ranges.specs.Entry.{good_operation, good_block}
+use Rattle.tables.specs.declared.Claim.{Claim}
+use Rattle.ranges.specs.Entry.{good_claim, good_operation, good_block}
 use Rattle.ranges.specs.Part.{good_list}
+
+-- a claim is judged by the number of operations alone
+pub claim_same : (x y : Tables) → x.counts.operations ≡ y.counts.operations → (c : Option Claim) → good_claim x c ≡ good_claim y c
+claim_same x y e None = refl
+claim_same x y e (Some c) = ap (ltb c.operation) e
 
 -- lists judged one by one, each whole and then in range
 pub block_tests : (x : Tables) (j : ℕ)

@@ -1,10 +1,11 @@
--- The tables, as `get` and `find` answer of them.
-use mathlib.Core.Path.{◌≡◌, refl, sym, ap, ◌∙◌}
-use mathlib.Core.Bool.{Bool, true, false, cond}
+-- The tables, as `get` and `find` answer of them; and that every entry of a table of bytes is a byte.
+use mathlib.Core.Path.{◌≡◌, refl, sym, ap, ◌∙◌, subst}
+use mathlib.Core.Bool.{Bool, true, false, cond, ◌&&◌}
 use mathlib.Core.List.{List, [], ◌∷◌, map}
-use Prim.Native.Nat.{ℕ}
+use Prim.Native.Nat.{ℕ, zero, suc, ◌<◌}
 use lib.ListN.{length, get_or, get_or-map}
-use lib.Dec.{eqb, ltb}
+use lib.Dec.{T, eqb, ltb}
+use borrow.Author.Tests.{ltb-true}
 use Rattle.std.proofs.Common.{Bor}
 use Rattle.std.specs.Prelude.{Option, Some, None, is_some, unwrap_or, option_map, option_copied}
 use Rattle.std.specs.List.{find}
@@ -28,6 +29,24 @@ pub requirement_is : (rows : List Requirement) (feature : ℕ) {item r : ℕ × 
     → item ≡ get_or (map row rows) feature (0, any) → need r.0 r.1 ≡ get_or rows feature nothing_needed
 requirement_is rows feature u e =
     ap (λ (r : ℕ × Architecture). need r.0 r.1) (u ∙ e ∙ get_or-map row rows feature nothing_needed)
+
+-- every entry of a list is a byte
+unfoldable pub all_bytes : List ℕ → Bool
+all_bytes [] = true
+all_bytes (x ∷ xs) = ltb x 256 && all_bytes xs
+
+no_true {ℓ} : {X : Type ℓ} → false ≡ true → X
+no_true e = absurd (subst T (sym e) tt)
+
+both : (t : Bool) {u : Bool} → t && u ≡ true → (t ≡ true) × (u ≡ true)
+both true e = (refl, e)
+both false e = no_true e
+
+pub byte : (xs : List ℕ) (k : ℕ) → all_bytes xs ≡ true → get_or xs k 0 < 256
+unfolding all_bytes
+byte [] k e = ltb-true 0 256 refl
+byte (x ∷ xs) zero e = ltb-true x 256 (both (ltb x 256) e).0
+byte (x ∷ xs) (suc k) e = byte xs k (both (ltb x 256) e).1
 
 -- a row of the targets, and its feature
 abbrev pub target_at : ℕ × ℕ → Target

@@ -1,25 +1,47 @@
--- The checks after code 1 read on cut counts what they read on the whole ones where code 1 passes.
+-- The checks after code 1 read only some of the tables, and on cut counts what they read on the whole ones where code 1 passes.
 -- Assumes nothing.
 use Prim.Native.Nat.{ℕ, zero, suc, ◌≤◌}
 use native.Mathlib.Omega.{arith}
 use mathlib.Core.Path.{◌≡◌, refl, sym, subst, ap, ◌∙◌}
-use mathlib.Core.List.{List}
+use mathlib.Core.List.{List, []}
+use mathlib.Core.Bool.{cond}
+use lib.Dec.{leb}
 use lib.ListN.{length}
 use Rattle.tables.specs.Sizes.{max_entries}
-use Rattle.tables.specs.Tables.{Tables, cut, result_types}
+use Rattle.tables.specs.Tables.{Tables, lent, nest, cut, result_types}
 use Rattle.tables.specs.Answer.{and_then, Answer}
+use Rattle.tables.specs.declared.Counts.{Counts}
 use Rattle.std.specs.Prelude.{Ok, Err}
 use Rattle.ranges.specs.Range.{sum, listed_by_operation, table_ranges, sheet_range}
 use Rattle.ranges.specs.Ranged.{Ranged}
 use Rattle.ranges.proofs.Laws.{ranged, cut_is}
 use Rattle.listed.specs.Twice.{listed_twice}
-use Rattle.walk.specs.Depth.{too_deep}
+use Rattle.walk.specs.Depth.{operation_depth, block_depth, region_depth, too_deep}
+use Rattle.walk.specs.Order.{operation_order, block_order, region_order, order_to, order}
 use Rattle.values.specs.Results.{sum_below, declared_in}
 use Rattle.values.specs.Claims.{Zeros, Filled}
 use Rattle.values.specs.Guarded.{guarded_twice}
-use Rattle.values.proofs.Laws.{guard_holds}
+use Rattle.values.proofs.Laws.{guard_holds, bare_twice}
 use Rattle.table_checks.specs.Checks.{after_ranges, table_checks, sheet_checks}
 use Rattle.table_checks.specs.Checked.{after_cut, HandsCut}
+
+module _ (t v o a b r f l : List ℕ) (n : Counts) where
+  pub listed_bare : listed_twice (cut (nest o b r f l n)) ≡ listed_twice (cut (lent t v o a b r f l n))
+  unfolding listed_twice
+  listed_bare = refl
+
+  pub depth_bare : too_deep (nest o b r f l n) ≡ too_deep (lent t v o a b r f l n)
+  unfolding too_deep operation_depth block_depth region_depth
+  depth_bare = refl
+
+  pub order_bare : order (nest o b r f l n) ≡ order (lent t v o a b r f l n)
+  unfolding order_to operation_order block_order region_order
+  order_bare = refl
+
+  pub values_bare : guarded_twice (cut (lent [] v o [] b [] [] l n)) ≡ guarded_twice (cut (lent t v o a b r f l n))
+  values_bare =
+      let y = cut (lent t v o a b r f l n) in
+      ap (λ (q : Answer). cond (leb (declared_in y y.counts.operations) max_entries) q (Ok tt)) (bare_twice y)
 
 -- no more results are declared than lists have entries
 sum_less : (f g : ℕ → ℕ) → ((i : ℕ) → f i ≤ g i) → (n : ℕ) → sum_below f n ≤ sum g n

@@ -6,3 +6,4 @@ pub mod Axes
 pub mod Laws
 pub mod Examples
 pub mod Rows
+pub mod Widths

@@ -1,14 +1,15 @@
 -- A loop over ids that are judged and written one by one, and what the definitions say of the list that the code read. Assumes nothing.
-use Prim.Native.Nat.{ℕ, suc, ◌+◌, ◌-◌, ◌<◌, ◌≤◌}
+use Prim.Native.Nat.{ℕ, suc, ◌+◌, ◌-◌, ◌<◌, ◌≤◌, min}
 use native.Mathlib.Omega.{arith}
 use mathlib.Core.Path.{◌≡◌, refl, ap, sym, ◌∙◌, subst}
 use mathlib.Core.List.{List, [], ◌∷◌}
-use lib.ListN.{length, get_or, drop}
+use lib.ListN.{length, get_or, drop, length-take}
 use Rattle.cells.specs.Lists.{flat}
 use Rattle.cells.specs.declared.Span.{Span}
 use Rattle.cells.proofs.Parts.{left_step, left_end}
 use Rattle.tables.specs.Tables.{Tables, regions, regions_span, blocks, operations}
-use Rattle.tables.specs.Layout.{regions_in}
+use Rattle.tables.specs.Layout.{regions_in, functions_in}
+use Rattle.tables.specs.declared.Counts.{Counts}
 use Rattle.tables.specs.Answer.{each, Answer}
 use Rattle.std.specs.Prelude.{Result, Ok, Err}
 use Rattle.tables.specs.declared.Refusal.{Refusal}
@@ -101,3 +102,8 @@ module _ (x : Tables) (d owner id : ℕ) {xs : List ℕ} (z : d ≡ 0) (e : xs �
   pub region_refused : {out : List ℕ} {p : Filled} → (length xs ≡ 0 → ⊥) → Visited (Err (TooDeep owner)) out p (region_depth d x owner id) (region_order d x id)
   unfolding region_depth
   region_refused h = record { answer = rw z (opens_some (blocks x id) (λ q. h (ap length e ∙ q))); reached = tt }
+
+-- as many functions as count and are there
+pub functions_counted : (f : List ℕ) (n : Counts) → length (functions_in f n) ≡ min n.functions (length f)
+unfolding functions_in
+functions_counted f n = length-take n.functions f
