@@ -45,14 +45,14 @@ fn tag_of(tag: &[u8]) -> Option<Kind>
     ensures { result ≡ kind_at (tag_of tag.now) }
 {
     match tag {
-        b"tile" => Some(Kind::Header),
-        b"T" => Some(Kind::Type),
-        b"V" => Some(Kind::Value),
-        b"O" => Some(Kind::Operation),
-        b"A" => Some(Kind::Attribute),
-        b"B" => Some(Kind::Block),
-        b"R" => Some(Kind::Region),
-        b"F" => Some(Kind::Function),
+        [b't', b'i', b'l', b'e'] => Some(Kind::Header),
+        [b'T'] => Some(Kind::Type),
+        [b'V'] => Some(Kind::Value),
+        [b'O'] => Some(Kind::Operation),
+        [b'A'] => Some(Kind::Attribute),
+        [b'B'] => Some(Kind::Block),
+        [b'R'] => Some(Kind::Region),
+        [b'F'] => Some(Kind::Function),
         _ => None,
     }
 }

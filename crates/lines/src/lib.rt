@@ -108,6 +108,7 @@ pub fn number_in(field: &[u8], width: Width) -> Option<u64>
 }
 
 // The number in the part that starts at a place and ends before a byte.
+#[inline(always)]
 fn number_from(s: &[u8], place: u64, byte: u8, width: Width) -> Option<Taken>
     ensures { result ≡ taken (number_in width (part_from byte place s.now)) (end_from byte place s.now + 1) }
 {
@@ -146,7 +147,8 @@ pub fn list_into(field: &[u8], width: Width, at: u64, l: &mut [u64]) -> Option<u
     Some(n)
 }
 
-// A line, read field by field from left to right: how many fields were read, and where the next one starts.
+// A line, read field by field from left to right: how many fields were read, and where the next one starts. Its methods are inlined, so that
+// each line knows the widths that it asks.
 #[derive(Clone, Copy)]
 struct Cursor<'a> {
     line: &'a [u8],
@@ -157,6 +159,7 @@ struct Cursor<'a> {
 
 impl<'a> Cursor<'a> {
     // Past the tag, which is field 1.
+    #[inline(always)]
     fn new(line: &'a [u8]) -> Cursor<'a>
         ensures line { result.line ≡ line.entry }
         ensures read { result.read ≡ 1 }
@@ -169,6 +172,7 @@ impl<'a> Cursor<'a> {
     }
 
     // The next field.
+    #[inline(always)]
     fn field(&mut self) -> &'a [u8]
         requires { self.old.read < 7 }
         ensures field { result.now ≡ nth self.old.read (split 9 self.old.line.now) }
@@ -186,6 +190,7 @@ impl<'a> Cursor<'a> {
     }
 
     // The number that the next field holds.
+    #[inline(always)]
     fn number(&mut self, width: Width) -> Result<u64, BadField>
         requires { self.old.read < 7 }
         ensures number { result ≡ ok_or (number_in width (nth self.old.read (split 9 self.old.line.now))) (bad_field (self.old.read + 1)) }
@@ -203,6 +208,7 @@ impl<'a> Cursor<'a> {
     }
 
     // The list that the next field holds, written from a place of the entries on; and its length.
+    #[inline(always)]
     fn list(&mut self, width: Width, at: u64, l: &mut [u64]) -> Result<u64, BadField>
         requires { self.old.read < 7 }
         ensures list { result ≡ ok_or (count_of (list_of (number_in width) (nth self.old.read (split 9 self.old.line.now)))) (bad_field (self.old.read + 1)) }

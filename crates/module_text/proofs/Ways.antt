@@ -61,6 +61,16 @@ pub lines_last : (s : State) (ps : List (List ℕ)) (l : List ℕ) → ps ≡ l 
 unfolding lines_of
 lines_last s ps l e = ap (lines_of s) e
 
+-- a refusal stays, whatever lines follow
+stays : (a : Answer) (s next : State) (q : Refusal) → a ≡ Err q → onward a s next ≡ s
+stays a s next q h = ap (λ (b : Answer). onward b s next) h
+
+pub lines_kept : (s : State) (q : Refusal) → s.answer ≡ Err q → (ls : List (List ℕ)) → lines_of s ls ≡ s
+unfolding lines_of line_of
+lines_kept s q h [] = refl
+lines_kept s q h (l ∷ []) = stays s.answer s _ q h
+lines_kept s q h (l ∷ m ∷ ls) = ap (λ (y : State). lines_of y (m ∷ ls)) (stays s.answer s _ q h) ∙ lines_kept s q h (m ∷ ls)
+
 -- ---- at a cursor p in the text, with the end e of the line there
 module _ (text : List ℕ) (p e : ℕ) (h : p ≤ length text) (at : e ≡ end_from 10 p text) (s s' whole : State)
     (inv : lines_of s (split 10 (drop p text)) ≡ whole) where

@@ -146,6 +146,10 @@ pub fn read_module(
     let mut s = start(t, v, o, a, b, r, f, l);
     let mut p: u64 = 0;
     loop {
+        // A refusal stays, whatever follows.
+        if let Err(_) = s.answer {
+            return s;
+        }
         let e = fields::find(text, p, b'\n');
         if text.len() as u64 <= e {
             return last_line(e - p, s, t, v, o, a, b, r, f, l);

@@ -9,10 +9,10 @@ use Rattle.house.specs.Step.{state_of}
 use Rattle.module_text.specs.Whole.{lines_of}
 use Rattle.module_text.proofs.read_module.Given as goal
 
-abbrev pub invariant-loop-t : goal.invariant-loop-t
-invariant-loop-t z =
+abbrev pub invariant-loop-s : goal.invariant-loop-s
+invariant-loop-s z =
     (z.p ≤ length z.text) × (length z.t ≡ length z.initial.t) × (length z.v ≡ length z.initial.v) × (length z.o ≡ length z.initial.o) × (length z.a ≡ length z.initial.a) × (length z.b ≡ length z.initial.b) × (length z.r ≡ length z.initial.r) × (length z.f ≡ length z.initial.f) × (length z.l ≡ length z.initial.l)
     × (lines_of (state_of z.s (lent z.t z.v z.o z.a z.b z.r z.f z.l no_counts)) (split 10 (drop z.p z.text)) ≡ lines_of (state_of z.initial.s (lent z.initial.t z.initial.v z.initial.o z.initial.a z.initial.b z.initial.r z.initial.f z.initial.l no_counts)) (split 10 z.text))
 
-abbrev pub decreases-loop-t : goal.decreases-loop-t
-decreases-loop-t z = length z.text - z.p
+abbrev pub decreases-loop-s : goal.decreases-loop-s
+decreases-loop-s z = length z.text - z.p
