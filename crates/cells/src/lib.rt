@@ -29,7 +29,7 @@ impl Word for u32 {
     }
 
     fn zero() -> Self {
-        0
+        0u32
     }
 }
 
@@ -39,11 +39,11 @@ impl Word for u64 {
     ghost zero = { 0 };
 
     fn widen(self) -> u64 {
-        self
+        self // as wide already
     }
 
     fn zero() -> Self {
-        0
+        0u64
     }
 }
 
