@@ -12,7 +12,7 @@ pub fn unopened(rt: &HostRuntime, path: &str, why: io::Error) -> io::Result<()> 
     eprintln!(rt; "{path}: {why}")
 }
 
-// `ok` with one `n` line a function, or one `no` line.
+// `ok` with one `n` line a function, or one `no` line. Each piece is tried, whatever became of those before.
 pub fn answered(
     rt: &HostRuntime,
     answer: Result<u64, Refusal>,
@@ -21,8 +21,9 @@ pub fn answered(
 ) -> io::Result<()> {
     match answer {
         Ok(count) => {
-            println!(rt; "ok")?;
-            functions(rt, numbers, lengths, count)
+            let ok = println!(rt; "ok");
+            let lines = functions(rt, numbers, lengths, count);
+            ok.and(lines)
         }
         Err(why) => {
             let n = tables::numbers_of(why);
@@ -33,24 +34,28 @@ pub fn answered(
 
 // A length above the count of all numbers is one that was not written: there are no more functions.
 fn functions(rt: &HostRuntime, numbers: &[u64], lengths: &[u64], count: u64) -> io::Result<()> {
+    let mut said = Ok(());
     let mut start: u64 = 0;
     for (position, &len) in lengths.iter().enumerate() {
         if count < len {
             break;
         }
-        print!(rt; "n\t{position}\t")?;
-        list(rt, cells::entries(numbers, Span { start, len }))?;
+        let begun = print!(rt; "n\t{position}\t");
+        let listed = list(rt, cells::entries(numbers, Span { start, len }));
+        said = said.and(begun).and(listed);
         start = start.wrapping_add(len);
     }
-    Ok(())
+    said
 }
 
 fn list(rt: &HostRuntime, numbers: &[u64]) -> io::Result<()> {
+    let mut said = Ok(());
     for (i, number) in numbers.iter().enumerate() {
         if i > 0 {
-            print!(rt; ",")?;
+            said = said.and(print!(rt; ","));
         }
-        print!(rt; "{number}")?;
+        said = said.and(print!(rt; "{number}"));
     }
-    println!(rt;)
+    let ended = println!(rt;);
+    said.and(ended)
 }
