@@ -9,6 +9,14 @@ ghost use Rattle.listed.specs.Twice.{listed_operations, refused, listed_twice};
 
 use tables::{Answer, Refusal, Tables};
 
+// A list for each number, by who has one for any.
+pub trait Lists {
+    ghost gives: { Self → ℕ → List ℕ → Type 0 };
+
+    fn list(&self, i: u64) -> &[u64]
+        ensures { gives self.now i result.now };
+}
+
 // A mark, once more.
 #[tactic(auto, unfolding(crate::specs::Marks::once_more))]
 fn once_more(m: u64) -> u64
@@ -35,14 +43,21 @@ pub fn mark_list(xs: &[u64], marks: &mut [u64])
     }
 }
 
-// One more of each entry of each of so many lists.
-fn mark_lists<'a, F: Fn(u64) -> &'a [u64]>(count: u64, list: F, marks: &mut [u64])
+// One more of each entry of each of so many lists, by a closure.
+fn mark_lists_by<'a, F: Fn(u64) -> &'a [u64]>(count: u64, list: F, marks: &mut [u64])
     requires { F.IsAlwaysCallable list }
     ensures { (entries : ℕ → List ℕ) → ((i : ℕ) (r : _) → i < count → F.post list i r → r.now ≡ entries i) → marks.new ≡ mark_all marks.old (flat entries (below count)) }
 {
     for i in 0..count {
         mark_list(list(i), marks);
     }
+}
+
+// One more of each entry of each of so many lists.
+pub fn mark_lists<L: Lists>(count: u64, lists: &L, marks: &mut [u64])
+    ensures { (entries : ℕ → List ℕ) → ((i : ℕ) (xs : List ℕ) → i < count → L.gives lists.now i xs → xs ≡ entries i) → marks.new ≡ mark_all marks.old (flat entries (below count)) }
+{
+    mark_lists_by(count, |i| lists.list(i), marks);
 }
 
 // One more of each function's operation.
@@ -73,7 +88,7 @@ fn twice_operations(x: &Tables<'_, '_, '_>) -> Answer
 {
     let mut marks = [0u64; 2048];
     mark_functions(x, &mut marks);
-    mark_lists(x.counts().blocks, |j| x.operations(j), &mut marks);
+    mark_lists_by(x.counts().blocks, |j| x.operations(j), &mut marks);
     lowest_marked(&marks, x.counts().operations, 0)
 }
 
@@ -83,7 +98,7 @@ fn twice_listed<'a, F: Fn(u64) -> &'a [u64]>(count: u64, list: F, ids: u64, kind
     ensures { (entries : ℕ → List ℕ) → ((i : ℕ) (r : _) → i < count → F.post list i r → r.now ≡ entries i) → result ≡ refused kind (lowest_seen 512 (flat entries (below count)) ids) }
 {
     let mut marks = [0u64; 512];
-    mark_lists(count, list, &mut marks);
+    mark_lists_by(count, list, &mut marks);
     lowest_marked(&marks, ids, kind)
 }
 
@@ -97,4 +112,30 @@ pub fn listed_twice(x: &Tables<'_, '_, '_>) -> Answer
     twice_operations(&x)?;
     twice_listed(n.regions, |k| x.blocks(k), n.blocks, 1)?;
     twice_listed(n.operations, |i| x.regions(i), n.regions, 2)
+}
+
+#[cfg(test)]
+mod tests {
+    use super::*;
+
+    // The same list for each number.
+    #[derive(Drop)]
+    struct Each<'a>(&'a [u64]);
+
+    impl<'a> Lists for Each<'a> {
+        ghost gives = { λ e _ xs. xs ≡ e.0.now };
+
+        fn list(&self, _i: u64) -> &[u64] {
+            self.0
+        }
+    }
+
+    #[test]
+    fn a_second_list_marks_once_more(rt: HostRuntime) {
+        let mut marks = [0u64; 4];
+        mark_lists(1, &Each(&[1, 3]), &mut marks);
+        assert_eq!(rt; marks, [0, 1, 0, 1]);
+        mark_lists(1, &Each(&[3, 9]), &mut marks);
+        assert_eq!(rt; marks, [0, 1, 0, 2]);
+    }
 }

@@ -2,7 +2,7 @@
 // Tests are joined by `&`, which asks them all: each answers for any entry, and the code reads as the definition does.
 #![tactic(auto)]
 
-ghost use Rattle.std.specs.Prelude.{◌≡◌, ℕ, Bool, ◌+◌, ◌-◌, ◌^◌, ◌<◌, suc, min, length, leb};
+ghost use Rattle.std.specs.Prelude.{◌≡◌, ℕ, Bool, ◌+◌, ◌-◌, ◌^◌, ◌<◌, suc, min, length, leb, ltb};
 ghost use Rattle.tables.specs.Sizes.{max_types, max_values, max_operations, max_attributes, max_blocks, max_regions, max_functions, max_entries, type_table, value_table, operation_table, attribute_table, block_table, region_table, function_table};
 ghost use Rattle.ranges.specs.Entry.{all, all_below, signed32, within, good_type, good_claim, good_value, good_operation, good_numbers, good_attribute, good_block, good_region};
 ghost use Rattle.ranges.specs.Range.{listed_by_operation, listed_by_attribute, listed_by_block, listed_by_region, table_ranges, good_count, good_sheet, sheet_range};
@@ -22,6 +22,22 @@ const MODES: u64 = 16;
 
 // The names that a rule looks up are numbered from 1 to this.
 const NAMES: u64 = 13;
+
+// Which entries are good, by who answers for any.
+pub trait IsGood {
+    ghost says: { Self → ℕ → Bool → Type 0 };
+
+    fn is_good(&self, entry: u64) -> bool
+        ensures { says self.now entry result };
+}
+
+// How many list entries an entry's lists take, by who answers for any.
+pub trait Takes {
+    ghost tells: { Self → ℕ → ℕ → Type 0 };
+
+    fn listed(&self, entry: u64) -> u64
+        ensures { tells self.now entry result };
+}
 
 // A table as a pass over it sees it: its number, its size, the cells of a row, how many were lent, and how many entries count.
 #[derive(Clone, Copy)]
@@ -128,8 +144,8 @@ impl Pass {
         (i < self.size) & (i < self.cells / self.width)
     }
 
-    // The first entry that does not stand or is not good.
-    fn first_bad<F: Fn(u64) -> bool>(&self, good: F) -> Answer
+    // The first entry that does not stand or is not good, by a closure.
+    fn first_bad_by<F: Fn(u64) -> bool>(&self, good: F) -> Answer
         requires { F.IsAlwaysCallable good }
         ensures { (p : ℕ → Bool) → ((i : ℕ) (r : Bool) → i < self.now.count → F.post good i r → r ≡ p i) → result ≡ first_of self.now p }
     {
@@ -145,8 +161,8 @@ impl Pass {
     }
 
     // Of a table that holds lists, by what each entry's lists add to those before: the list entries up to its end, or its first entry that
-    // does not stand, is not good or has no room.
-    fn scan<F: Fn(u64) -> bool, L: Fn(u64) -> u64>(
+    // does not stand, is not good or has no room; by closures.
+    fn scan_by<F: Fn(u64) -> bool, L: Fn(u64) -> u64>(
         &self,
         before: u64,
         good: F,
@@ -167,6 +183,29 @@ impl Pass {
             }
         }
         Ok(used)
+    }
+
+    // The first entry that does not stand or is not good.
+    pub fn first_bad<G: IsGood>(&self, good: &G) -> Answer
+        ensures { (p : ℕ → Bool) → ((i : ℕ) (r : Bool) → i < self.now.count → G.says good.now i r → r ≡ p i) → result ≡ first_of self.now p }
+    {
+        self.first_bad_by(|entry| good.is_good(entry))
+    }
+
+    // The list entries up to the table's end, or its first entry that does not stand, is not good or has no room.
+    pub fn scan<G: IsGood, T: Takes>(
+        &self,
+        before: u64,
+        good: &G,
+        listed: &T,
+    ) -> Result<u64, Refusal>
+        ensures { (p : ℕ → Bool) (f : ℕ → ℕ) → ((i : ℕ) (r : Bool) → i < self.now.count → G.says good.now i r → r ≡ p i) → ((i r : ℕ) → i < self.now.count → T.tells listed.now i r → r ≡ min (f i) (2 ^ 64 - 1)) → result ≡ scan_of self.now p f before }
+    {
+        self.scan_by(
+            before,
+            |entry| good.is_good(entry),
+            |entry| listed.listed(entry),
+        )
     }
 }
 
@@ -354,21 +393,21 @@ pub fn listed_by_region(x: &Tables<'_, '_, '_>, id: u64) -> u64
 pub fn check_tables(x: &Tables<'_, '_, '_>) -> Answer
     ensures { result ≡ table_ranges x.now }
 {
-    Pass::types(x).first_bad(|i| good_type(x, i))?;
-    Pass::values(x).first_bad(|i| good_value(x, i))?;
-    let used = Pass::operations(x).scan(
+    Pass::types(x).first_bad_by(|i| good_type(x, i))?;
+    Pass::values(x).first_bad_by(|i| good_value(x, i))?;
+    let used = Pass::operations(x).scan_by(
         0,
         |i| good_operation(x, i),
         |i| listed_by_operation(x, i),
     )?;
-    let used = Pass::attributes(x).scan(
+    let used = Pass::attributes(x).scan_by(
         used,
         |i| good_attribute(x, i),
         |i| listed_by_attribute(x, i),
     )?;
-    let used = Pass::blocks(x).scan(used, |i| good_block(x, i), |i| listed_by_block(x, i))?;
-    Pass::regions(x).scan(used, |i| good_region(x, i), |i| listed_by_region(x, i))?;
-    Pass::functions(x).first_bad(|i| x.function(i) < x.counts().operations)
+    let used = Pass::blocks(x).scan_by(used, |i| good_block(x, i), |i| listed_by_block(x, i))?;
+    Pass::regions(x).scan_by(used, |i| good_region(x, i), |i| listed_by_region(x, i))?;
+    Pass::functions(x).first_bad_by(|i| x.function(i) < x.counts().operations)
 }
 
 // The rows of the sheet for an opcode, an atomic mode and a kind.
@@ -419,4 +458,65 @@ pub fn check_sheet(sheet: &[u64]) -> Answer
         table: tables::SHEET_TABLE,
         entry: 0,
     })
+}
+
+#[cfg(test)]
+mod pass_tests {
+    use super::*;
+
+    // Entries below a bound are good, and each takes two list entries.
+    #[derive(Drop)]
+    struct Below(u64);
+
+    impl IsGood for Below {
+        ghost says = { λ b i r. r ≡ ltb i b.0 };
+
+        fn is_good(&self, entry: u64) -> bool {
+            entry < self.0
+        }
+    }
+
+    impl Takes for Below {
+        ghost tells = { λ _ _ r. r ≡ 2 };
+
+        fn listed(&self, _entry: u64) -> u64 {
+            2
+        }
+    }
+
+    // Five functions, of which so many are lent.
+    fn functions(cells: u64) -> Pass
+        ensures { result ≡ record { table = 7; size = 64; width = 1; cells = cells; count = 5 } }
+    {
+        Pass {
+            table: tables::FUNCTION_TABLE,
+            size: tables::MAX_FUNCTIONS,
+            width: tables::FUNCTION_CELLS,
+            cells,
+            count: 5,
+        }
+    }
+
+    fn refused_at(answer: Answer) -> Option<u64> {
+        match answer {
+            Err(Refusal::OutOfRange { entry, .. }) => Some(entry),
+            _ => None,
+        }
+    }
+
+    #[test]
+    fn the_first_bad_entry_is_refused(rt: HostRuntime) {
+        assert!(rt; functions(5).first_bad(&Below(5)).is_ok());
+        assert_eq!(rt; refused_at(functions(5).first_bad(&Below(3))), Some(3));
+        assert_eq!(rt; refused_at(functions(4).first_bad(&Below(5))), Some(4));
+    }
+
+    #[test]
+    fn list_entries_are_counted_up_to_8192(rt: HostRuntime) {
+        let all = Below(5);
+        assert_eq!(rt; functions(5).scan(100, &all, &all).ok(), Some(110));
+        assert_eq!(rt; functions(5).scan(8182, &all, &all).ok(), Some(8192));
+        assert!(rt; functions(5).scan(8183, &all, &all).is_err());
+        assert!(rt; functions(5).scan(100, &Below(4), &all).is_err());
+    }
 }

@@ -12,7 +12,7 @@ use Rattle.listed.proofs.twice_operations.Goals as goal
 pub returns : goal.returns
 returns c =
     let x = c.args.x.now in
-    let lists = rw (c.counts.ensures) at (c.mark_lists.ensures (operations x) (λ i r h e. search rules)) in
+    let lists = rw (c.counts.ensures) at (c.mark_lists_by.ensures (operations x) (λ i r h e. search rules)) in
     c.lowest_marked.ensures
     ∙ rw (c.counts-2.ensures)
     (ap (λ (m : List ℕ). refused 0 (lowest_marked m x.counts.operations)) (operations_marked x c.mark_functions.ensures lists))

@@ -1,6 +1,6 @@
--- `mark_lists`: one list more, as the closure gave it. Assumes nothing.
+-- `mark_lists_by`: one list more, as the closure gave it. Assumes nothing.
 use Rattle.listed.proofs.Marks.{lists_step}
-use Rattle.listed.proofs.mark_lists.Goals as goal
+use Rattle.listed.proofs.mark_lists_by.Goals as goal
 
 pub loop-i-preserved : goal.loop-i-preserved
 loop-i-preserved g c = (

@@ -1,6 +1,6 @@
--- `first_bad`: entry by entry, up to the first that is bad, whatever the closure tests. Assumes nothing.
+-- `first_bad_by`: entry by entry, up to the first that is bad, whatever the closure tests. Assumes nothing.
 use Rattle.ranges.proofs.Scan.{check_step, check_stop, check_end}
-use Rattle.ranges.proofs.Pass.first_bad.Goals as goal
+use Rattle.ranges.proofs.Pass.first_bad_by.Goals as goal
 
 pub returns-then-not-stands-good : goal.returns-then-not-stands-good
 returns-then-not-stands-good g c p h =

@@ -1,9 +1,9 @@
--- `scan`: entry by entry, with the list entries so far, whatever the closures test and count. Assumes nothing.
+-- `scan_by`: entry by entry, with the list entries so far, whatever the closures test and count. Assumes nothing.
 use Prim.Native.Nat.{ℕ, ◌-◌, ◌^◌, ◌<◌, min}
 use mathlib.Core.Path.{◌≡◌}
 use mathlib.Core.Bool.{Bool}
 use Rattle.ranges.proofs.Scan.{Scan}
-use Rattle.ranges.proofs.Pass.scan.Given as goal
+use Rattle.ranges.proofs.Pass.scan_by.Given as goal
 
 abbrev pub invariant-loop-entry : goal.invariant-loop-entry
 invariant-loop-entry g z =

@@ -1,6 +1,6 @@
--- `scan`: entry by entry, with the list entries so far, whatever the closures test and count. Assumes nothing.
+-- `scan_by`: entry by entry, with the list entries so far, whatever the closures test and count. Assumes nothing.
 use Rattle.ranges.proofs.Scan.{scan_step, scan_stop, scan_end}
-use Rattle.ranges.proofs.Pass.scan.Goals as goal
+use Rattle.ranges.proofs.Pass.scan_by.Goals as goal
 
 pub returns-then-not-stands-good : goal.returns-then-not-stands-good
 returns-then-not-stands-good g c p f h k =

@@ -1,10 +1,10 @@
--- `first_bad`: entry by entry, up to the first that is bad, whatever the closure tests. Assumes nothing.
+-- `first_bad_by`: entry by entry, up to the first that is bad, whatever the closure tests. Assumes nothing.
 use Prim.Native.Nat.{ℕ, ◌<◌}
 use mathlib.Core.Path.{◌≡◌}
 use mathlib.Core.Bool.{Bool}
 use Rattle.ranges.proofs.Find.{Passed}
 use Rattle.ranges.proofs.Scan.{bad}
-use Rattle.ranges.proofs.Pass.first_bad.Given as goal
+use Rattle.ranges.proofs.Pass.first_bad_by.Given as goal
 
 abbrev pub invariant-loop-entry : goal.invariant-loop-entry
 invariant-loop-entry g z =

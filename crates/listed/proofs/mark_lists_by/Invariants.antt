@@ -1,9 +1,9 @@
--- `mark_lists`: what is left of the lists leads to the same marks, whatever the lists hold. Assumes nothing.
+-- `mark_lists_by`: what is left of the lists leads to the same marks, whatever the lists hold. Assumes nothing.
 use Prim.Native.Nat.{ℕ, ◌<◌}
 use mathlib.Core.Path.{◌≡◌}
 use mathlib.Core.List.{List}
 use Rattle.listed.proofs.Marks.{Marking}
-use Rattle.listed.proofs.mark_lists.Given as goal
+use Rattle.listed.proofs.mark_lists_by.Given as goal
 
 abbrev pub invariant-loop-i : goal.invariant-loop-i
 invariant-loop-i g z =
